@@ -1,0 +1,67 @@
+-- Each call's outcome is determined: two outcomes that its promise allows are equal, answer and memory.
+-- Assumes nothing.
+use mathlib.Core.Path.{_≡_, refl, sym, ap₂, subst, _∙_}
+use mathlib.Core.Bool.{Bool}
+use mathlib.Core.List.{List}
+use Prim.Native.Nat.{ℕ}
+use native.Mathlib.Omega.{arith}
+use lib.ListN.{length}
+use Rattle.meaning.specs.Tree.{Tree}
+use Rattle.meaning.specs.Move.{Apart}
+use Rattle.meaning.specs.Listing.{Pair, Listing, At}
+use Rattle.meaning.specs.Answer.{Answer, accepted, refusal, Outcome, TableSize, TableMemory, GraphSize, GraphMemory}
+use Rattle.meaning.specs.Calls.{formCall, cutCall, PairCall, is-apart, not-apart, refuses, tableCall, GraphBy, lists, graphOf}
+use Rattle.meaning.specs.Sheet.{Sheet, prints, sheet, refusalLine}
+use Rattle.meaning.proofs.Listing.{listing-unique}
+
+pub form-determined : (s out : List ℕ) (o o′ : Outcome ℕ (List ℕ)) → o ≡ formCall s out → o′ ≡ formCall s out → o ≡ o′
+form-determined s out o o′ e f = e ∙ sym f
+
+pub cut-determined : (s : List ℕ) (c : ℕ) (out : List ℕ) (o o′ : Outcome ℕ (List ℕ)) → o ≡ cutCall s c out → o′ ≡ cutCall s c out → o ≡ o′
+cut-determined s c out o o′ e f = e ∙ sym f
+
+pub table-determined : (s : List ℕ) (memory : TableMemory) (o o′ : Outcome TableSize TableMemory) → o ≡ tableCall s memory → o′ ≡ tableCall s memory → o ≡ o′
+table-determined s memory o o′ e f = e ∙ sym f
+
+-- an answer accepts one thing only, and does not refuse it
+pub same-accepted : {A : Type 0} {a : Answer A} {x y : A} → a ≡ accepted x → a ≡ accepted y → x ≡ y
+same-accepted e f = cc
+
+pub not-both : {A : Type 0} {a : Answer A} {x : A} {n i p : ℕ} → a ≡ accepted x → a ≡ refusal n i p → ⊥
+not-both e f = let z : _≡_ {A = ℕ} 0 1 = cc in omega arith
+
+pub same-refusal : {A : Type 0} {a : Answer A} {n i p m j q : ℕ} → a ≡ refusal n i p → a ≡ refusal m j q → (n ≡ m) × (i ≡ j) × (p ≡ q)
+same-refusal e f = (cc, cc, cc)
+
+-- two trees are apart or not
+clash : {a : Answer ((t : Tree) × Tree)} {x y : (t : Tree) × Tree} → a ≡ accepted x → a ≡ accepted y → Apart (x .0) (x .1) → ¬ Apart (y .0) (y .1) → ⊥
+clash e f h k = k (subst (λ (z : (t : Tree) × Tree). Apart (z .0) (z .1)) (same-accepted e f) h)
+
+pub pair-determined : {s s′ : List ℕ} {a b : Answer Bool} → PairCall s s′ a → PairCall s s′ b → a ≡ b
+pair-determined (is-apart t u e h) (is-apart t′ u′ e′ h′) = refl
+pair-determined (is-apart t u e h) (not-apart t′ u′ e′ h′) = absurd (clash e e′ h h′)
+pair-determined (is-apart t u e h) (PairCall.refuses n i p e′) = absurd (not-both e e′)
+pair-determined (not-apart t u e h) (is-apart t′ u′ e′ h′) = absurd (clash e′ e h′ h)
+pair-determined (not-apart t u e h) (not-apart t′ u′ e′ h′) = refl
+pair-determined (not-apart t u e h) (PairCall.refuses n i p e′) = absurd (not-both e e′)
+pair-determined (PairCall.refuses n i p e) (is-apart t′ u′ e′ h′) = absurd (not-both e′ e)
+pair-determined (PairCall.refuses n i p e) (not-apart t′ u′ e′ h′) = absurd (not-both e′ e)
+pair-determined (PairCall.refuses n i p e) (PairCall.refuses n′ i′ p′ e′) = let (x, y, z) = same-refusal e e′ in cc
+
+-- one table has one listing
+same-listing : (R : Tree → Tree → Type 0) {a : Answer (List Tree)} {ts us : List Tree} {ps qs : List Pair} → a ≡ accepted ts → a ≡ accepted us → Listing (length ts) (At R ts) ps → Listing (length us) (At R us) qs → (ts ≡ us) × (ps ≡ qs)
+same-listing R {ps} e f L M =
+    let h = same-accepted e f in
+    (h, listing-unique (subst (λ (vs : List Tree). Listing (length vs) (At R vs) ps) h L) M)
+
+pub graph-determined : {R : Tree → Tree → Type 0} {s : List ℕ} {memory : GraphMemory} {o o′ : Outcome GraphSize GraphMemory} → GraphBy R s memory o → GraphBy R s memory o′ → o ≡ o′
+graph-determined {R} {memory} (lists ts ps e L) (lists ts′ ps′ e′ L′) = let (h, k) = same-listing R e e′ L L′ in ap₂ (λ (vs : List Tree) (qs : List Pair). graphOf vs qs memory) h k
+graph-determined (lists ts ps e L) (GraphBy.refuses n i p e′) = absurd (not-both e e′)
+graph-determined (GraphBy.refuses n i p e) (lists ts ps e′ L) = absurd (not-both e′ e)
+graph-determined (GraphBy.refuses n i p e) (GraphBy.refuses n′ i′ p′ e′) = let (x, y, z) = same-refusal e e′ in cc
+
+pub sheet-determined : {s x y : List ℕ} → Sheet s x → Sheet s y → x ≡ y
+sheet-determined (prints ts ps e L) (prints ts′ ps′ e′ L′) = let (h, k) = same-listing Apart e e′ L L′ in ap₂ sheet h k
+sheet-determined (prints ts ps e L) (Sheet.refuses n i p e′) = absurd (not-both e e′)
+sheet-determined (Sheet.refuses n i p e) (prints ts ps e′ L) = absurd (not-both e′ e)
+sheet-determined (Sheet.refuses n i p e) (Sheet.refuses n′ i′ p′ e′) = let (x, y, z) = same-refusal e e′ in ap₂ refusalLine x z

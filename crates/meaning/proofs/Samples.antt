@@ -1,0 +1,115 @@
+-- The starred samples of document 01 hold.
+-- Assumes nothing.
+use mathlib.Core.Path.{_≡_, refl, subst}
+use mathlib.Core.Bool.{not}
+use mathlib.Core.List.{List, [], _∷_}
+use Prim.Native.Nat.{ℕ, zero, suc, _<_}
+use native.Mathlib.Omega.{arith}
+use borrow.Author.Tests.{le-leb, le-ltb}
+use lib.Dec.{T, T-not}
+use lib.ListN.{length}
+use Rattle.meaning.specs.Bytes.{bytes}
+use Rattle.meaning.specs.Tree.{Tree, Distinct}
+use Rattle.meaning.specs.Move.{Apart}
+use Rattle.meaning.specs.Reading.{Read, got, refused, isBlank, isDigit, lead, past, valueAfter, value, member, token, labelAt, forkAt, nodeAt, readNode, treeAt, readTree, within, tableFrom, readTable}
+use Rattle.meaning.specs.Listing.{Pair, Listing, At, treeOf}
+use Rattle.meaning.specs.Decide.{distinct?, apart?}
+use Rattle.meaning.specs.Calls.{is-apart, not-apart, lists}
+use Rattle.meaning.specs.Sheet.{Sheet, prints, firstLine, treeLine, treeLines, pairLines, sheet}
+use Rattle.meaning.specs.Samples.{AllHold, samples}
+use Rattle.meaning.proofs.Decide.{distinct-iff, apart-iff}
+use Rattle.meaning.proofs.Listing.{pairsOf, pairsFrom, rowOf, each, apart-listing}
+
+-- a pair is decided by computation
+pub near : (t u : Tree) → T (distinct? t) → T (distinct? u) → T (apart? t u) → Apart t u
+near t u d e h = apart-iff t u (distinct-iff t .0 d) (distinct-iff u .0 e) .0 h
+
+pub far : (t u : Tree) → T (distinct? t) → T (distinct? u) → T (not (apart? t u)) → ¬ Apart t u
+far t u d e h a = T-not (apart? t u) h (apart-iff t u (distinct-iff t .0 d) (distinct-iff u .0 e) .1 a)
+
+-- so is the listing of a table
+abbrev Distincts : List Tree → Type 0
+Distincts [] = Unit {0}
+Distincts (t ∷ ts) = T (distinct? t) × Distincts ts
+
+distinct-at : (ts : List Tree) → Distincts ts → (i : ℕ) → i < length ts → Distinct (treeOf ts i)
+distinct-at [] d i h = absurd (omega arith)
+distinct-at (t ∷ ts) d zero h = distinct-iff t .0 (d .0)
+distinct-at (t ∷ ts) d (suc i) h = distinct-at ts (d .1) i (omega arith)
+
+pub listed : (ts : List Tree) (ps : List Pair) → Distincts ts → pairsOf (length ts) (λ i j. apart? (treeOf ts i) (treeOf ts j)) ≡ ps → Listing (length ts) (At Apart ts) ps
+listed ts ps d e = subst (Listing (length ts) (At Apart ts)) e (apart-listing ts (distinct-at ts d))
+
+-- the trees of a table that is read
+abbrev trees : Read (List Tree) → List Tree
+trees (got ts p) = ts
+trees (refused n p) = []
+
+abbrev two : List Tree
+two = trees (readTable (bytes "(((1,2),3),4);((1,2),(3,4));"))
+
+pub samples-hold : AllHold samples
+unfolding pairsFrom rowOf each isBlank isDigit lead past valueAfter value member token labelAt forkAt nodeAt readNode treeAt readTree within tableFrom readTable
+samples-hold = (
+  λ out h. rw (le-leb 309 (length out) h),
+  (
+    λ out h. rw (le-leb 309 (length out) h),
+    (
+      λ out h. rw (le-leb 309 (length out) h),
+      (
+        λ c out h. rw (le-leb 307 (length out) h, le-ltb c 0 (omega arith)),
+        (
+          λ out h. rw (le-leb 309 (length out) h),
+          (
+            λ out h. rw (le-leb 309 (length out) h),
+            (
+              λ out h. rw (le-leb 309 (length out) h),
+              (
+                λ out h. rw (le-leb 309 (length out) h),
+                (
+                  λ memory h k. rw (le-leb 49440 (length (memory .texts)) h, le-leb 160 (length (memory .ends)) k),
+                  (
+                    λ out h. rw (le-leb 307 (length out) h),
+                    (
+                      λ out h. rw (le-leb 307 (length out) h),
+                      (
+                        is-apart _ _ refl (near _ _ tt tt tt),
+                        (
+                          (_, _, refl, refl),
+                          (
+                            λ memory h k. (two, lists two ((0, 1) ∷ []) (rw (le-leb 25440 (length (memory .pairs)) h, le-leb 160 (length (memory .counts)) k)) (listed two ((0, 1) ∷ []) (tt, (tt, tt)) refl)),
+                            (
+                              not-apart _ _ refl (far _ _ tt tt tt),
+                              (
+                                not-apart _ _ refl (far _ _ tt tt tt),
+                                tt,
+                              ),
+                            ),
+                          ),
+                        ),
+                      ),
+                    ),
+                  ),
+                ),
+              ),
+            ),
+          ),
+        ),
+      ),
+    ),
+  ),
+)
+
+-- the sheet that document 01 prints whole
+abbrev input : List ℕ
+input = bytes "((2,1),3);\n(3,(2,1));\n(1,(2,3));\n((1,3),2);\n"
+
+abbrev four : List Tree
+four = trees (readTable input)
+
+abbrev five : List Pair
+five = (0, 2) ∷ (0, 3) ∷ (1, 2) ∷ (1, 3) ∷ (2, 3) ∷ []
+
+pub sheet-holds : Sheet input (bytes "trees 4 pairs 5\ntree 0 neighbours 2 unlinked 1 ((1,2),3);\ntree 1 neighbours 2 unlinked 1 ((1,2),3);\ntree 2 neighbours 3 unlinked 0 (1,(2,3));\ntree 3 neighbours 3 unlinked 0 ((1,3),2);\npair 0 2\npair 0 3\npair 1 2\npair 1 3\npair 2 3\n")
+unfolding pairsFrom rowOf each isBlank isDigit lead past valueAfter value member token labelAt forkAt nodeAt readNode treeAt readTree within tableFrom readTable firstLine treeLine treeLines pairLines sheet
+sheet-holds = prints four five refl (listed four five (tt, (tt, (tt, (tt, tt)))) refl)

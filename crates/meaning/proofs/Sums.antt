@@ -1,0 +1,139 @@
+-- Sums over the positions 0 to k - 1, and tests as the numbers 1 and 0.
+-- Assumes nothing.
+use mathlib.Core.Path.{_≡_, refl, sym, ap, _∙_}
+use mathlib.Core.Logic.{_≢_}
+use mathlib.Core.Bool.{Bool, true, false, cond, _&&_, _||_}
+use mathlib.Core.List.{List, [], _∷_, _++_, map, map-append}
+use Prim.Native.Nat.{ℕ, zero, suc, _+_, _*_, _≤_, _<_}
+use native.Mathlib.Nat.{zero-mul, suc-mul}
+use native.Mathlib.Omega.{arith}
+use native.Mathlib.Decide.{ℕ-discrete}
+use borrow.Author.Tests.{eq-eqb, ne-eqb}
+use lib.Dec.{T, eqb}
+use lib.ListN.{length, getD, length-append, List·getD-append}
+use lib.Seq.{getD-at}
+use Rattle.meaning.specs.Listing.{count, positions}
+
+-- the sum of a list
+abbrev pub sum : List ℕ → ℕ
+sum [] = 0
+sum (x ∷ xs) = x + sum xs
+
+-- f 0 + f 1 + .. + f (k - 1)
+abbrev pub upto : (ℕ → ℕ) → ℕ → ℕ
+upto f zero = 0
+upto f (suc k) = upto f k + f k
+
+-- 1 where the test passes, and 0 where it fails
+abbrev pub bit : Bool → ℕ
+bit b = cond b 1 0
+
+sum-append : (xs ys : List ℕ) → sum (xs ++ ys) ≡ sum xs + sum ys
+sum-append [] ys = omega arith
+sum-append (x ∷ xs) ys = omega (arith, sum-append xs ys)
+
+-- how many pass a test, in two lists together
+pub count-append : {A : Type 0} (test : A → Bool) (xs ys : List A) → count test (xs ++ ys) ≡ count test xs + count test ys
+count-append test [] ys = omega arith
+count-append test (x ∷ xs) ys = omega (arith, count-append test xs ys)
+
+module _ (f : ℕ → ℕ) where
+  map-suc : (k : ℕ) → map f (positions (suc k)) ≡ map f (positions k) ++ (f k ∷ [])
+  unfolding positions
+  map-suc k = map-append f (positions k) (k ∷ [])
+
+  -- f at each position: k numbers
+  pub map-length : (k : ℕ) → length (map f (positions k)) ≡ k
+  unfolding positions
+  map-length zero = refl
+  map-length (suc k) = simp (map-suc, length-append) (omega (arith, map-length k))
+
+  -- the i-th is f i
+  pub map-at : (k i : ℕ) → i < k → getD (map f (positions k)) i 0 ≡ f i
+  map-at zero i h = absurd (omega arith)
+  map-at (suc k) i h = ap (λ (l : List ℕ). getD l i 0) (map-suc k) ∙ go (ℕ-discrete k i) (map-at k i)
+    where
+      go : Dec (k ≡ i) → (i < k → getD (map f (positions k)) i 0 ≡ f i) → getD (map f (positions k) ++ (f k ∷ [])) i 0 ≡ f i
+      go (yes e) g = getD-at (map f (positions k)) (f k) [] 0 i (map-length k ∙ e) ∙ ap f e
+      go (no n) g = List·getD-append (map f (positions k)) (f k ∷ []) 0 i (omega (arith, map-length k)) ∙ g (omega arith)
+
+  -- and their sum
+  pub map-sum : (k : ℕ) → sum (map f (positions k)) ≡ upto f k
+  unfolding positions
+  map-sum zero = refl
+  map-sum (suc k) = simp (map-suc, sum-append) (omega (arith, map-sum k))
+
+-- how many positions pass a test
+pub count-positions : (test : ℕ → Bool) (k : ℕ) → count test (positions k) ≡ upto (λ j. bit (test j)) k
+unfolding positions
+count-positions test zero = refl
+count-positions test (suc k) = simp count-append (omega (arith, count-positions test k))
+
+-- a sum of sums
+pub upto-add : (f g : ℕ → ℕ) (k : ℕ) → upto (λ j. f j + g j) k ≡ upto f k + upto g k
+upto-add f g zero = refl
+upto-add f g (suc k) = omega (arith, upto-add f g k)
+
+-- larger terms have no smaller sum
+pub upto-le : (f g : ℕ → ℕ) (k : ℕ) → ((j : ℕ) → j < k → f j ≤ g j) → upto f k ≤ upto g k
+upto-le f g zero h = omega arith
+upto-le f g (suc k) h = omega (arith, h k (omega arith), upto-le f g k (λ j l. h j (omega arith)))
+
+-- the same terms have the same sum
+pub upto-same : (f g : ℕ → ℕ) (k : ℕ) → ((j : ℕ) → j < k → f j ≡ g j) → upto f k ≡ upto g k
+upto-same f g k h = omega (arith, upto-le f g k (λ j l. omega (arith, h j l)), upto-le g f k (λ j l. omega (arith, h j l)))
+
+-- one term k times
+pub upto-const : (c k : ℕ) → upto (λ _. c) k ≡ k * c
+upto-const c zero = sym (zero-mul c)
+upto-const c (suc k) = omega (arith, suc-mul k c, upto-const c k)
+
+-- a test that passes
+pub bit-one : (b : Bool) → T b → bit b ≡ 1
+bit-one true t = refl
+bit-one false t = absurd t
+
+-- a test that fails
+pub bit-none : (b : Bool) → (T b → ⊥) → bit b ≡ 0
+bit-none true f = absurd (f tt)
+bit-none false f = refl
+
+-- two tests that never both pass
+pub bit-or : (a b : Bool) → (T a → T b → ⊥) → bit (a || b) ≡ bit a + bit b
+bit-or true true f = absurd (f tt tt)
+bit-or true false f = refl
+bit-or false b f = omega arith
+
+and-comm : (a b : Bool) → a && b ≡ b && a
+and-comm true true = refl
+and-comm true false = refl
+and-comm false true = refl
+and-comm false false = refl
+
+eq-bit : (x j : ℕ) → x ≡ j → bit (eqb x j) ≡ 1
+eq-bit x j e = ap bit (eq-eqb x j e)
+
+ne-bit : (x j : ℕ) → x ≢ j → bit (eqb x j) ≡ 0
+ne-bit x j n = ap bit (ne-eqb x j n)
+
+upto-past : (x k : ℕ) → k ≤ x → upto (λ j. bit (eqb x j)) k ≡ 0
+upto-past x zero h = refl
+upto-past x (suc k) h = omega (arith, upto-past x k (omega arith), ne-bit x k (omega arith))
+
+-- x is one of the positions below k
+pub upto-at : (x k : ℕ) → x < k → upto (λ j. bit (eqb x j)) k ≡ 1
+upto-at x zero h = absurd (omega arith)
+upto-at x (suc k) h = go (ℕ-discrete x k) (upto-at x k)
+  where
+    go : Dec (x ≡ k) → (x < k → upto (λ j. bit (eqb x j)) k ≡ 1) → upto (λ j. bit (eqb x j)) k + bit (eqb x k) ≡ 1
+    go (yes e) f = omega (arith, eq-bit x k e, upto-past x k (omega arith))
+    go (no n) f = omega (arith, ne-bit x k n, f (omega arith))
+
+-- and so under a further test that does not hang on the position
+pub upto-and : (b : Bool) (x k : ℕ) → x < k → upto (λ j. bit (b && eqb x j)) k ≡ bit b
+upto-and true x k h = upto-at x k h
+upto-and false x k h = omega (arith, upto-const 0 k)
+
+-- the two tests the other way round
+pub and-upto : (b : Bool) (x k : ℕ) → x < k → upto (λ j. bit (eqb x j && b)) k ≡ bit b
+and-upto b x k h = upto-same (λ j. bit (eqb x j && b)) (λ j. bit (b && eqb x j)) k (λ j _. ap bit (and-comm (eqb x j) b)) ∙ upto-and b x k h

@@ -1,0 +1,11 @@
+pub mod Answer
+pub mod Bytes
+pub mod Calls
+pub mod Decide
+pub mod Grammar
+pub mod Listing
+pub mod Move
+pub mod Reading
+pub mod Samples
+pub mod Sheet
+pub mod Tree

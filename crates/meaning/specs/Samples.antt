@@ -1,0 +1,63 @@
+-- The starred samples of document 01, and what each claims.
+-- Assumes nothing.
+use mathlib.Core.Path.{_≡_}
+use mathlib.Core.Bool.{true, false}
+use mathlib.Core.List.{List, [], _∷_}
+use Prim.Native.Nat.{ℕ, _≤_}
+use Prim.Native.String.{String}
+use lib.ListN.{length}
+use Rattle.meaning.specs.Bytes.{bytes}
+use Rattle.meaning.specs.Tree.{Tree}
+use Rattle.meaning.specs.Listing.{Pair}
+use Rattle.meaning.specs.Decide.{shared}
+use Rattle.meaning.specs.Answer.{accepted, refusal, TableMemory, GraphMemory, written}
+use Rattle.meaning.specs.Calls.{formCall, cutCall, pairRead, PairCall, tableCall, graphOf, GraphCall}
+
+-- a text and what a call gives for it
+pub data Sample : Type 0 where
+  has-form : (text form : String) → Sample
+  form-refused : (text : String) (number place : ℕ) → Sample
+  no-cuts : (text : String) → Sample
+  has-cut : (text : String) (cut : ℕ) (forest : String) → Sample
+  table-refused : (text : String) (number place : ℕ) → Sample
+  yes-apart : (text text′ : String) → Sample
+  no-apart : (text text′ : String) → Sample
+  shares : (text text′ : String) (forests : ℕ) → Sample
+  lists : (table : String) (pairs : List Pair) → Sample
+
+-- the claim of a sample, whatever memory of the stated size is lent
+abbrev pub Holds : Sample → Type 0
+Holds (has-form x y) = (out : List ℕ) → 309 ≤ length out → formCall (bytes x) out ≡ record { answer = accepted (length (bytes y)); memory = written (bytes y) out }
+Holds (form-refused x n p) = (out : List ℕ) → 309 ≤ length out → formCall (bytes x) out ≡ record { answer = refusal n 0 p; memory = out }
+Holds (no-cuts x) = (c : ℕ) (out : List ℕ) → 307 ≤ length out → cutCall (bytes x) c out ≡ record { answer = refusal 9 0 0; memory = out }
+Holds (has-cut x c y) = (out : List ℕ) → 307 ≤ length out → cutCall (bytes x) c out ≡ record { answer = accepted (length (bytes y)); memory = written (bytes y) out }
+Holds (table-refused x n p) = (memory : TableMemory) → 49440 ≤ length (memory .texts) → 160 ≤ length (memory .ends) → tableCall (bytes x) memory ≡ record { answer = refusal n 0 p; memory = memory }
+Holds (yes-apart x y) = PairCall (bytes x) (bytes y) (accepted true)
+Holds (no-apart x y) = PairCall (bytes x) (bytes y) (accepted false)
+Holds (shares x y n) = (t : Tree) × (u : Tree) × (pairRead (bytes x) (bytes y) ≡ accepted (t, u)) × (shared t u ≡ n)
+Holds (lists x ps) = (memory : GraphMemory) → 25440 ≤ length (memory .pairs) → 160 ≤ length (memory .counts) → (ts : List Tree) × GraphCall (bytes x) memory (graphOf ts ps memory)
+
+-- all of them hold
+abbrev pub AllHold : List Sample → Type 0
+AllHold [] = Unit {0}
+AllHold (s ∷ ss) = Holds s × AllHold ss
+
+abbrev pub samples : List Sample
+samples =
+    has-form "(3,(2,1));" "((1,2),3);"
+    ∷ has-form "(10,2);" "(2,10);"
+    ∷ has-form " 7 ;" "7;"
+    ∷ no-cuts " 7 ;"
+    ∷ form-refused "(1,2,3);" 1 4
+    ∷ form-refused "(1,2)" 1 5
+    ∷ form-refused "(1,1);" 3 3
+    ∷ form-refused "(1,65);" 2 3
+    ∷ table-refused "(1,2);(1,3);" 5 11
+    ∷ has-cut "((1,2),(3,4));" 0 "(3,4) (1,2);"
+    ∷ has-cut "((1,2),(3,4));" 3 "(1,2) (3,4);"
+    ∷ yes-apart "(((1,2),3),4);" "((1,2),(3,4));"
+    ∷ shares "(((1,2),3),4);" "((1,2),(3,4));" 3
+    ∷ lists "(((1,2),3),4);((1,2),(3,4));" ((0, 1) ∷ [])
+    ∷ no-apart "(((1,2),3),4);" "(((3,4),1),2);"
+    ∷ no-apart "((((4,5),1),2),3);" "((((1,2),3),4),5);"
+    ∷ []
