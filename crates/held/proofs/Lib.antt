@@ -1,0 +1,4 @@
+pub mod Laws
+pub mod Write
+pub mod Canon
+pub mod Cut

@@ -1,0 +1,128 @@
+-- Laws of a draft: the labels that its nodes' bytes have, and what one more node adds.
+-- Assumes nothing.
+use mathlib.Core.Path.{_≡_, refl, sym, ap, ap₂, _∙_}
+use mathlib.Core.Logic.{⊎-elim}
+use mathlib.Core.Bool.{Bool, true, false, cond, _||_}
+use mathlib.Core.List.{List, [], _∷_, _++_, append-nil, List·Memᴰ, List·Memᴰ·head, List·Memᴰ·tail, List·Memᴰ·not-nil, List·Memᴰ·append-cases}
+use Prim.Native.Nat.{ℕ, suc, _+_, _≤_, _<_}
+use native.Mathlib.Numerals.{add-one}
+use native.Mathlib.Omega.{arith}
+use borrow.Author.Tests.{le-leb, lt-leb, leb-true, ne-eqb}
+use lib.Dec.{leb, eqb}
+use lib.ListN.{length, take, drop, set, length-append, length-set}
+use lib.Seq.{sets, sets-eq, length-sets, take-at, take-suc-set, length-take-le, set-set}
+use Rattle.meaning.specs.Tree.{Tree, leaf, fork, tip, Small, Good, labels, leaves}
+use Rattle.meaning.specs.Reading.{member}
+use Rattle.meaning.proofs.Labels.{NoDup, nodup-append, distinct-nodup, labels-in, labels-length}
+use Rattle.meaning.proofs.Length.{few}
+use Rattle.meaning.proofs.Scan.{and-left, and-right, in-member}
+use Rattle.meaning.proofs.Complete.{New}
+use Rattle.held.specs.Held.{nodes, pre}
+use Rattle.held.proofs.Laws.{length-pre, twice, some-leaves, small-first, small-second}
+use Rattle.held.proofs.Write.{sets-append, set-sets}
+use Rattle.reading.specs.Draft.{isLabel, labelsIn, seen, Draft}
+
+-- ---- the labels among bytes
+label-yes : (v : ℕ) → 1 ≤ v → v ≤ 64 → isLabel v ≡ true
+label-yes v l h = rw (le-leb 1 v l, le-leb v 64 h)
+
+pub labelsIn-append : (xs ys : List ℕ) → labelsIn (xs ++ ys) ≡ labelsIn xs ++ labelsIn ys
+unfolding labelsIn
+labelsIn-append [] ys = refl
+labelsIn-append (x ∷ xs) ys = by (isLabel x) (labelsIn-append xs ys)
+  where
+    by : (d : Bool) → labelsIn (xs ++ ys) ≡ labelsIn xs ++ labelsIn ys → cond d (x ∷ labelsIn (xs ++ ys)) (labelsIn (xs ++ ys)) ≡ cond d (x ∷ labelsIn xs) (labelsIn xs) ++ labelsIn ys
+    by true e = ap (λ (l : List ℕ). x ∷ l) e
+    by false e = e
+
+-- of a tree's nodes they are the tree's labels
+pub labelsIn-pre : (t : Tree) → Small t → labelsIn (pre t) ≡ labels t
+unfolding labelsIn
+labelsIn-pre (leaf l) S = rw (le-leb 1 l (S l tip .0), le-leb l 64 (S l tip .1))
+labelsIn-pre (fork a b) S =
+    let n : ℕ = 64 + (leaves a + leaves b) in
+    rw (le-leb 1 n (omega arith), lt-leb n 64 (omega (arith, some-leaves a)))
+    (labelsIn-append (pre a) (pre b) ∙ ap₂ _++_ (labelsIn-pre a (small-first S)) (labelsIn-pre b (small-second S)))
+
+pub labelsIn-range : (xs : List ℕ) (l : ℕ) → List·Memᴰ l (labelsIn xs) → (1 ≤ l) × (l ≤ 64)
+unfolding labelsIn
+labelsIn-range [] l m = absurd (List·Memᴰ·not-nil m)
+labelsIn-range (x ∷ xs) l m = by (isLabel x) refl (labelsIn-range xs l) m
+  where
+    here : isLabel x ≡ true → (List·Memᴰ l (labelsIn xs) → (1 ≤ l) × (l ≤ 64)) → List·Memᴰ l (x ∷ labelsIn xs) → (1 ≤ l) × (l ≤ 64)
+    here e f (List·Memᴰ·head g) = rw g (leb-true 1 x (and-left (leb 1 x) (leb x 64) e), leb-true x 64 (and-right (leb 1 x) (leb x 64) e))
+    here e f (List·Memᴰ·tail n) = f n
+
+    by : (d : Bool) → isLabel x ≡ d → (List·Memᴰ l (labelsIn xs) → (1 ≤ l) × (l ≤ 64)) → List·Memᴰ l (cond d (x ∷ labelsIn xs) (labelsIn xs)) → (1 ≤ l) × (l ≤ 64)
+    by true e f n = here e f n
+    by false e f n = f n
+
+-- a label is among the bytes exactly when it is among their labels
+pub member-labels : (v : ℕ) (xs : List ℕ) → 1 ≤ v → v ≤ 64 → member v xs ≡ member v (labelsIn xs)
+unfolding labelsIn member
+member-labels v [] l h = refl
+member-labels v (x ∷ xs) l h = by (isLabel x) refl (member-labels v xs l h)
+  where
+    by : (d : Bool) → isLabel x ≡ d → member v xs ≡ member v (labelsIn xs) → (eqb x v || member v xs) ≡ member v (cond d (x ∷ labelsIn xs) (labelsIn xs))
+    by true e f = ap (λ (b : Bool). eqb x v || b) f
+    by false e f = rw (ne-eqb x v (λ q. let z = label-yes v l h in let w : isLabel v ≡ false = rw (← q) e in let y : _≡_ {A = ℕ} 0 1 = cc in omega arith)) f
+
+-- ---- one node more
+pub less-room : {node : List ℕ} {at room room′ : ℕ} → Draft node at room → room′ ≤ room → Draft node at room′
+less-room d h = record { size = d .size; once = d .once; fits = omega (arith, d .fits) }
+
+pub draft-in : {node : List ℕ} {at room : ℕ} → Draft node at room → at + room ≤ length node
+draft-in {node} {at} d = omega (arith, d .size, d .fits, few 64 (seen node at) (d .once) (labelsIn-range (take at node)))
+
+-- none of a node's labels was seen: then none occurs twice, and there are at most 64
+module _ {node : List ℕ} {at room : ℕ} (d : Draft node at room) {t : Tree} (good : Good t) (new : New t (seen node at)) where
+  pub once-more : NoDup (seen node at ++ labels t)
+  once-more = nodup-append (seen node at) (labels t) (d .once) (distinct-nodup t (good .distinct)) (λ l m n. let e = new l (labels-in t n) in let f = in-member m in let z : _≡_ {A = ℕ} 0 1 = cc in omega arith)
+
+  pub few-more : length (seen node at) + leaves t ≤ 64
+  few-more =
+      omega (arith, few 64 (seen node at ++ labels t) once-more (λ l m. ⊎-elim (λ n. labelsIn-range (take at node) l n) (λ n. good .small l (labels-in t n)) (List·Memᴰ·append-cases (seen node at) m)), length-append (seen node at) (labels t), labels-length t)
+
+  pub fits-more : at + nodes t < length node
+  fits-more = omega (arith, few-more, twice t, d .size, d .fits)
+
+  took : take (at + nodes t) (sets node at (pre t)) ≡ take at node ++ pre t
+  took =
+      let e : sets node at (pre t) ≡ (take at node ++ pre t) ++ drop (at + length (pre t)) node = sets-eq (pre t) node at (omega (arith, length-pre t, fits-more)) in
+      rw e (take-at (take at node ++ pre t) (drop (at + length (pre t)) node) (at + nodes t) (simp length-append (omega (arith, length-pre t, length-take-le at node (omega (arith, fits-more))))))
+
+  pub seen-more : seen (sets node at (pre t)) (at + nodes t) ≡ seen node at ++ labels t
+  seen-more = ap labelsIn took ∙ labelsIn-append (take at node) (pre t) ∙ ap (λ (l : List ℕ). seen node at ++ l) (labelsIn-pre t (good .small))
+
+  -- reading can go on behind it
+  pub draft-more : Draft (sets node at (pre t)) (at + nodes t) room
+  draft-more = record {
+    size = length-sets node at (pre t) ∙ d .size;
+    once = rw seen-more once-more;
+    fits = rw seen-more (simp length-append (omega (arith, d .fits, twice t, labels-length t)));
+  }
+
+-- a fork is opened: its byte is no label yet
+module _ {node : List ℕ} {at room : ℕ} (d : Draft node at (suc room)) where
+  pub open-room : at < length node
+  open-room = omega (arith, draft-in d)
+
+  pub seen-open : seen (set node at 0) (at + 1) ≡ seen node at
+  unfolding labelsIn
+  seen-open = rw (add-one, take-suc-set node at 0 open-room) (labelsIn-append (take at node) (0 ∷ []) ∙ append-nil (seen node at))
+
+  pub draft-open : Draft (set node at 0) (at + 1) room
+  draft-open = record { size = length-set node at 0 ∙ d .size; once = rw seen-open (d .once); fits = rw seen-open (omega (arith, d .fits)) }
+
+-- it is closed behind both its nodes: its byte is 64 and the leaves
+closed : (node : List ℕ) (at : ℕ) (a b : Tree) → set (sets (sets (set node at 0) (at + 1) (pre a)) (at + 1 + nodes a) (pre b)) at (64 + (leaves a + leaves b)) ≡ sets node at (pre (fork a b))
+closed node at a b =
+    let v : ℕ = 64 + (leaves a + leaves b) in
+    let e : sets (sets (set node at 0) (at + 1) (pre a)) (at + 1 + nodes a) (pre b) ≡ set (sets node (at + 1) (pre a ++ pre b)) at 0 =
+    ap (λ (j : ℕ). sets (sets (set node at 0) (at + 1) (pre a)) (at + 1 + j) (pre b)) (sym (length-pre a))
+    ∙ sym (sets-append (set node at 0) (at + 1) (pre a) (pre b)) ∙ set-sets node at (at + 1) 0 (pre a ++ pre b) (omega arith) in
+    ap (λ (l : List ℕ). set l at v) e ∙ set-set (sets node (at + 1) (pre a ++ pre b)) at 0 v
+    ∙ sym (set-sets node at (at + 1) v (pre a ++ pre b) (omega arith)) ∙ ap (λ (j : ℕ). sets (set node at v) j (pre a ++ pre b)) (add-one at)
+
+pub closed-by : (node node₁ node₂ : List ℕ) (at k v : ℕ) (a b : Tree) → node₁ ≡ sets (set node at 0) (at + 1) (pre a) → k ≡ at + 1 + nodes a → node₂ ≡ sets node₁ k (pre b) → v ≡ 64 + (leaves a + leaves b) → set node₂ at v ≡ sets node at (pre (fork a b))
+closed-by node node₁ node₂ at k v a b e f g h = rw (g, e, f, h) (closed node at a b)

@@ -1,0 +1,4 @@
+pub mod Draft
+pub mod Fork
+pub mod Meet
+pub mod Whole

@@ -1,0 +1,41 @@
+-- `reading::expect_byte` meets its contract.
+-- Assumes nothing.
+use mathlib.Core.Path.{sym, ap, _∙_}
+use Prim.Native.Nat.{ℕ, _+_}
+use native.Mathlib.Omega.{arith}
+use Rattle.meaning.proofs.Scan.{inside}
+use Rattle.reading.specs.Draft.{refusedAt}
+use Rattle.reading.specs.declared.Step.the-variants.{Next}
+use Rattle.reading.proofs.Meet.{step-yes, step-no}
+use borrow.Author.Needs.{needs}
+use Rattle.reading.proofs.expect_byte.Statement.{statement}
+use Rattle.reading.proofs.expect_byte.Tie as tie
+
+skip-blanks-requires : tie.Need-skip-blanks-requires
+skip-blanks-requires c κs = search needs
+
+byte-at-requires : tie.Need-byte-at-requires
+byte-at-requires c κs = search needs
+
+add-t9 : tie.Need-add-t9
+add-t9 c = omega (arith, inside (c .before .before .before .before .args .s .now) _ (sym (c .before .byte-at .ensures) ∙ c .if1 .taken) (c .before .before .before .before .pre))
+
+refused-requires : tie.Need-refused-requires
+refused-requires c κs = search needs
+
+returns : tie.Need-returns
+returns c =
+    let a = c .before .before .before .before .args in
+    let q = c .before .before .skip-blanks .ensures in
+    sym (step-yes (a .b) (a .s .now) (a .from) (a .at) (rw (← q) (sym (c .before .byte-at .ensures) ∙ c .if1 .taken)) ∙ ap (λ (p : ℕ). Next (p + 1) (a .at)) (sym q))
+
+returns-2 : tie.Need-returns-2
+returns-2 c =
+    let a = c .before .before .before .before .before .args in
+    let q = c .before .before .before .skip-blanks .ensures in
+    c .refused .ensures ∙ ap (refusedAt 1) q ∙ sym (step-no (a .b) (a .s .now) (a .from) (a .at) (λ e. c .before .if1 .left (c .before .before .byte-at .ensures ∙ (rw (← q) at e))))
+
+pub expect-byte-spec : {M : Type 1} → statement M
+expect-byte-spec =
+    tie.close
+    (tie.spec skip-blanks-requires byte-at-requires add-t9 refused-requires returns returns-2)

@@ -1,0 +1,271 @@
+// Reads tree text: blanks, labels, nodes and forks.
+use held::Tree;
+ghost use mathlib.Core.Path.{_≡_};
+ghost use Prim.Native.Nat.{min, suc, _+_, _-_, _/_, _≤_, _<_};
+ghost use lib.ListN.{length, take, getD};
+ghost use Rattle.meaning.specs.Reading.{isBlank, isDigit, skip, runEnd, value, member, forkAt, labelAt, readNode, treeAt, readTree};
+ghost use Rattle.reading.specs.Draft.{seen, Draft, Meets, refusedAt, tokenStep};
+ghost use Rattle.reading.specs.Whole.{TreeMeets};
+
+// A line of the refusal list: its number, which text (0, or 1 for the second of a pair) and the place.
+pub struct Refusal {
+    pub number: u8,
+    pub text: u8,
+    pub place: usize,
+}
+
+impl Refusal {
+    pub const WRONG_BYTE: u8 = 1;
+
+    pub const BAD_LABEL: u8 = 2;
+
+    pub const LABEL_AGAIN: u8 = 3;
+
+    pub const TOO_DEEP: u8 = 4;
+
+    pub const LABELS_DIFFER: u8 = 5;
+
+    pub const TOO_MANY_TREES: u8 = 6;
+
+    pub const SHORT_SLICE: u8 = 7;
+
+    pub const LONG_TEXT: u8 = 8;
+
+    pub const NO_SUCH_CUT: u8 = 9;
+}
+
+// Where reading goes on in the text and among the nodes, or why it ends.
+pub enum Step {
+    Next(usize, usize),
+    Refused(Refusal),
+}
+
+// What reading a tree gives: the step, with the number of its nodes, and the tree, which counts only where reading goes on.
+pub struct TreeRead {
+    pub step: Step,
+    pub tree: Tree,
+}
+
+// A run of digits: where it ends, and its value or 65, whichever is less.
+struct Run {
+    end: usize,
+    value: usize,
+}
+
+fn wide(x: u8) -> usize
+    ensures { λ r. ⌜ r ≡ x ⌝ }
+{
+    x as usize
+}
+
+// The byte at a place; 0 behind the end.
+fn byte_at(s: &[u8], at: usize) -> u8
+    ensures { λ r. ⌜ r ≡ getD (now (s .entry)) at 0 ⌝ }
+{
+    if at < s.len() { s[at] } else { 0 }
+}
+
+fn is_blank(b: u8) -> bool
+    ensures { λ r. ⌜ r ≡ isBlank b ⌝ }
+{
+    if b == b' ' {
+        return true;
+    }
+    if b == b'\t' {
+        return true;
+    }
+    if b == b'\r' {
+        return true;
+    }
+    b == b'\n'
+}
+
+fn is_digit(b: u8) -> bool
+    ensures { λ r. ⌜ r ≡ isDigit b ⌝ }
+{
+    if b < b'0' {
+        return false;
+    }
+    b <= b'9'
+}
+
+pub fn skip_blanks(s: &[u8], from: usize) -> usize
+    ensures { λ r. ⌜ r ≡ skip (now (s .entry)) from ⌝ }
+{
+    let mut i = from;
+    while i < s.len() {
+        if !is_blank(s[i]) {
+            return i;
+        }
+        i += 1;
+    }
+    i
+}
+
+// The run of digits at a place. A value above 64 is held at 65, so that no run is too long.
+fn digit_run(s: &[u8], from: usize) -> Run
+    ensures { λ r. ⌜ (r .end ≡ runEnd (now (s .entry)) from) × (r .value ≡ min 65 (value (now (s .entry)) from)) ⌝ }
+{
+    let mut i = from;
+    let mut v: usize = 0;
+    while i < s.len() {
+        let b = s[i];
+        if !is_digit(b) {
+            return Run { end: i, value: v };
+        }
+        v = v * 10 + wide(b - b'0');
+        if 65 < v {
+            v = 65;
+        }
+        i += 1;
+    }
+    Run { end: i, value: v }
+}
+
+fn refused(number: u8, place: usize) -> Step
+    ensures { λ r. ⌜ r ≡ refusedAt number place ⌝ }
+{
+    Step::Refused(Refusal {
+        number,
+        text: 0,
+        place,
+    })
+}
+
+// Whether v is among the first n nodes.
+fn has_label(node: &[u8], n: usize, v: usize) -> bool
+    requires { ⌜ n ≤ length (now node) ⌝ }
+    ensures { λ r. ⌜ r ≡ member v (take n (now (node .entry))) ⌝ }
+{
+    let mut i = 0;
+    while i < n {
+        if wide(node[i]) == v {
+            return true;
+        }
+        i += 1;
+    }
+    false
+}
+
+// The label whose first digit is at q, as the node `at`.
+fn read_label(s: &[u8], q: usize, node: &mut [u8], at: usize) -> Step
+    requires { ⌜ Draft (now node) at 0 ⌝ }
+    ensures { λ r. ⌜ Meets (now (node .entry)) (now (node .exit)) at (labelAt (now (s .entry)) q (seen (now (node .entry)) at)) r ⌝ }
+{
+    if byte_at(s, q) == b'0' {
+        return refused(Refusal::BAD_LABEL, q);
+    }
+    let run = digit_run(s, q);
+    let v = run.value;
+    if v < 1 {
+        return refused(Refusal::BAD_LABEL, q);
+    }
+    if wide(Tree::MAX_LABEL) < v {
+        return refused(Refusal::BAD_LABEL, q);
+    }
+    if has_label(node, at, v) {
+        return refused(Refusal::LABEL_AGAIN, q);
+    }
+    node[at] = v as u8;
+    Step::Next(run.end, at + 1)
+}
+
+// The token b, after blanks: where reading goes on behind it, with the next node at `at`.
+fn expect_byte(s: &[u8], from: usize, b: u8, at: usize) -> Step
+    requires { ⌜ 0 < b ⌝ }
+    ensures { λ r. ⌜ r ≡ tokenStep b (now (s .entry)) from at ⌝ }
+{
+    let q = skip_blanks(s, from);
+    if byte_at(s, q) == b {
+        Step::Next(q + 1, at)
+    } else {
+        refused(Refusal::WRONG_BYTE, q)
+    }
+}
+
+// The byte of a fork at the node `at` whose nodes end before `end`: 64 and its leaves.
+fn fork_byte(at: usize, end: usize) -> u8
+    requires { ⌜ (at < end) × (end ≤ at + 191) ⌝ }
+    ensures { λ r. ⌜ r ≡ 64 + (end - at + 1) / 2 ⌝ }
+{
+    let leaves = (end - at + 1) / 2;
+    Tree::FORK + leaves as u8
+}
+
+// The node at `from`, as the node `at`, where `room` more brackets may open.
+fn read_node(s: &[u8], from: usize, room: usize, node: &mut [u8], at: usize) -> Step
+    requires { ⌜ Draft (now node) at room ⌝ }
+    ensures { λ r. ⌜ Meets (now (node .entry)) (now (node .exit)) at (readNode room (now (s .entry)) from (seen (now (node .entry)) at)) r ⌝ }
+{
+    let q = skip_blanks(s, from);
+    let b = byte_at(s, q);
+    if is_digit(b) {
+        return read_label(s, q, node, at);
+    }
+    if b == b'(' {
+        if room == 0 {
+            return refused(Refusal::TOO_DEEP, q);
+        }
+        return read_fork(s, q + 1, room - 1, node, at);
+    }
+    refused(Refusal::WRONG_BYTE, q)
+}
+
+// The rest of a fork, behind its bracket, as the node `at`. Its byte is 0, which is no label, until its leaves are known.
+fn read_fork(s: &[u8], from: usize, room: usize, node: &mut [u8], at: usize) -> Step
+    requires { ⌜ Draft (now node) at (suc room) ⌝ }
+    ensures { λ r. ⌜ Meets (now (node .entry)) (now (node .exit)) at (forkAt (readNode room (now (s .entry))) (now (s .entry)) from (seen (now (node .entry)) at)) r ⌝ }
+{
+    node[at] = 0;
+    let first = read_node(s, from, room, node, at + 1);
+    let Step::Next(p, half) = first else {
+        return first;
+    };
+    let comma = expect_byte(s, p, b',', half);
+    let Step::Next(q, next) = comma else {
+        return comma;
+    };
+    let second = read_node(s, q, room, node, next);
+    let Step::Next(p2, end) = second else {
+        return second;
+    };
+    node[at] = fork_byte(at, end);
+    expect_byte(s, p2, b')', end)
+}
+
+// The tree at `from`: a node and `;`.
+pub fn read_at(s: &[u8], from: usize) -> TreeRead
+    ensures { λ r. ⌜ TreeMeets r (treeAt (now (s .entry)) from) ⌝ }
+{
+    let mut node = [0u8; Tree::MAX_DRAFT];
+    let step = read_node(s, from, Tree::MAX_OPEN, &mut node, 0);
+    let Step::Next(p, nodes) = step else {
+        return TreeRead {
+            step,
+            tree: Tree::empty(),
+        };
+    };
+    TreeRead {
+        step: expect_byte(s, p, b';', nodes),
+        tree: Tree::canonical(&node),
+    }
+}
+
+// A text with exactly one tree: behind its `;` are blanks only.
+pub fn read_tree(s: &[u8]) -> TreeRead
+    ensures { λ r. ⌜ TreeMeets r (readTree (now (s .entry))) ⌝ }
+{
+    let read = read_at(s, 0);
+    let step = read.step;
+    let Step::Next(p, _) = step else {
+        return read;
+    };
+    let end = skip_blanks(s, p);
+    if end < s.len() {
+        return TreeRead {
+            step: refused(Refusal::WRONG_BYTE, end),
+            tree: Tree::empty(),
+        };
+    }
+    read
+}

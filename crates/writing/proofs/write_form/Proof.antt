@@ -1,0 +1,22 @@
+-- `writing::write_form` meets its contract. Assumes nothing.
+use borrow.Author.Needs.{needs}
+use Rattle.meaning.specs.Tree.{canon}
+use Rattle.writing.proofs.Texts.{canon-holds, room-form}
+use Rattle.writing.proofs.write_form.Statement.{statement}
+use Rattle.writing.proofs.write_form.Tie as tie
+
+slice-aggregate-write-part : tie.Need-slice-aggregate-write-part
+slice-aggregate-write-part c = search needs
+
+write-part-requires : tie.Need-write-part-requires
+write-part-requires c κs = room-form (c .before .before .before .before .pre)
+
+same-length : tie.Need-same-length
+same-length c = search needs
+
+returns : tie.Need-returns
+returns c = λ t G e. c .before .before .write-part .ensures (canon t) (canon-holds G e)
+
+pub write-form-spec : {M : Type 1} → statement M
+write-form-spec =
+    tie.close (tie.spec slice-aggregate-write-part write-part-requires same-length returns)
