@@ -1,15 +1,22 @@
 -- Each call's promise determines its answer and the lent memory at exit.
 -- Assumes nothing.
-use mathlib.Core.Path.{_≡_, sym, ap, _∙_}
+use mathlib.Core.Path.{_≡_, refl, sym, ap, ap₂, _∙_}
 use mathlib.Core.List.{List}
 use Prim.Native.Nat.{ℕ}
 use native.Mathlib.Omega.{arith}
-use Rattle.meaning.specs.Answer.{Answer, Outcome}
-use Rattle.meaning.specs.Calls.{formCall}
+use Rattle.meaning.specs.Answer.{Answer, Outcome, TableSize, TableMemory, GraphSize, GraphMemory}
+use Rattle.meaning.specs.Calls.{formCall, cutCall, PairCall, tableCall, GraphCall}
+use Rattle.meaning.proofs.Determined.{pair-determined, graph-determined}
 use Rattle.reading.specs.declared.Refusal.{Refusal}
-use Rattle.calls.specs.Paper.{refusalOf, textAnswer, textOutcome}
+use Rattle.calls.specs.Paper.{refusalOf, textAnswer, textOutcome, pairAnswer, tableAnswer, tableOutcome, graphAnswer, graphOutcome}
 use Rattle.calls.specs.declared.TextAnswer.{TextAnswer}
 use Rattle.calls.specs.declared.TextAnswer.the-variants.{Written, Refused}
+use Rattle.calls.specs.declared.PairAnswer.{PairAnswer}
+use Rattle.calls.specs.declared.PairAnswer.the-variants as pair
+use Rattle.calls.specs.declared.TableAnswer.{TableAnswer}
+use Rattle.calls.specs.declared.TableAnswer.the-variants as table
+use Rattle.calls.specs.declared.GraphAnswer.{GraphAnswer}
+use Rattle.calls.specs.declared.GraphAnswer.the-variants as graph
 
 -- refusals of the same number, text and place are the same
 same-fields : {n m i j p q : ℕ} → n ≡ m → i ≡ j → p ≡ q → _≡_ {A = Refusal} (record { number = n; text = i; place = p }) (record { number = m; text = j; place = q })
@@ -33,3 +40,55 @@ text-determined {r} {r′} e f =
 
 pub form-call-determined : (s out : List ℕ) {r r′ : TextAnswer} {o o′ : List ℕ} → textOutcome r o ≡ formCall s out → textOutcome r′ o′ ≡ formCall s out → (r ≡ r′) × (o ≡ o′)
 form-call-determined s out e f = text-determined e f
+
+pub cut-call-determined : (s : List ℕ) (c : ℕ) (out : List ℕ) {r r′ : TextAnswer} {o o′ : List ℕ} → textOutcome r o ≡ cutCall s c out → textOutcome r′ o′ ≡ cutCall s c out → (r ≡ r′) × (o ≡ o′)
+cut-call-determined s c out e f = text-determined e f
+
+-- the table call
+pub table-one : (r r′ : TableAnswer) → tableAnswer r ≡ tableAnswer r′ → r ≡ r′
+table-one (table.Written n k) (table.Written m j) e =
+    let x : _≡_ {A = TableSize} (record { bytes = n; trees = k }) (record { bytes = m; trees = j }) = cc in
+    ap₂ table.Written (ap (λ (z : TableSize). z .bytes) x) (ap (λ (z : TableSize). z .trees) x)
+table-one (table.Written n k) (table.Refused y) e = let z : _≡_ {A = ℕ} 0 1 = cc in absurd (omega arith)
+table-one (table.Refused x) (table.Written m j) e = let z : _≡_ {A = ℕ} 0 1 = cc in absurd (omega arith)
+table-one (table.Refused x) (table.Refused y) e = ap table.Refused (refusal-one e)
+
+pub table-call-determined : (s : List ℕ) (memory : TableMemory) {r r′ : TableAnswer} {texts texts′ ends ends′ : List ℕ} → tableOutcome r texts ends ≡ tableCall s memory → tableOutcome r′ texts′ ends′ ≡ tableCall s memory → (r ≡ r′) × (texts ≡ texts′) × (ends ≡ ends′)
+table-call-determined s memory {r} {r′} e f =
+    let h = e ∙ sym f in (
+      table-one r r′ (ap (λ (x : Outcome TableSize TableMemory). x .answer) h),
+      ap (λ (x : Outcome TableSize TableMemory). x .memory .texts) h,
+      ap (λ (x : Outcome TableSize TableMemory). x .memory .ends) h,
+    )
+
+-- the pair call
+pub pair-one : (r r′ : PairAnswer) → pairAnswer r ≡ pairAnswer r′ → r ≡ r′
+pair-one pair.Yes pair.Yes e = refl
+pair-one pair.Yes pair.No e = let z : _≡_ {A = ℕ} 0 1 = cc in absurd (omega arith)
+pair-one pair.Yes (pair.Refused y) e = let z : _≡_ {A = ℕ} 0 1 = cc in absurd (omega arith)
+pair-one pair.No pair.Yes e = let z : _≡_ {A = ℕ} 0 1 = cc in absurd (omega arith)
+pair-one pair.No pair.No e = refl
+pair-one pair.No (pair.Refused y) e = let z : _≡_ {A = ℕ} 0 1 = cc in absurd (omega arith)
+pair-one (pair.Refused x) pair.Yes e = let z : _≡_ {A = ℕ} 0 1 = cc in absurd (omega arith)
+pair-one (pair.Refused x) pair.No e = let z : _≡_ {A = ℕ} 0 1 = cc in absurd (omega arith)
+pair-one (pair.Refused x) (pair.Refused y) e = ap pair.Refused (refusal-one e)
+
+pub pair-call-determined : {s s′ : List ℕ} (r r′ : PairAnswer) → PairCall s s′ (pairAnswer r) → PairCall s s′ (pairAnswer r′) → r ≡ r′
+pair-call-determined r r′ h k = pair-one r r′ (pair-determined h k)
+
+-- the graph call
+pub graph-one : (r r′ : GraphAnswer) → graphAnswer r ≡ graphAnswer r′ → r ≡ r′
+graph-one (graph.Listed k n) (graph.Listed j m) e =
+    let x : _≡_ {A = GraphSize} (record { trees = k; pairs = n }) (record { trees = j; pairs = m }) = cc in
+    ap₂ graph.Listed (ap (λ (z : GraphSize). z .trees) x) (ap (λ (z : GraphSize). z .pairs) x)
+graph-one (graph.Listed k n) (graph.Refused y) e = let z : _≡_ {A = ℕ} 0 1 = cc in absurd (omega arith)
+graph-one (graph.Refused x) (graph.Listed j m) e = let z : _≡_ {A = ℕ} 0 1 = cc in absurd (omega arith)
+graph-one (graph.Refused x) (graph.Refused y) e = ap graph.Refused (refusal-one e)
+
+pub graph-call-determined : (s : List ℕ) (memory : GraphMemory) (r r′ : GraphAnswer) {pairs pairs′ counts counts′ : List ℕ} → GraphCall s memory (graphOutcome r pairs counts) → GraphCall s memory (graphOutcome r′ pairs′ counts′) → (r ≡ r′) × (pairs ≡ pairs′) × (counts ≡ counts′)
+graph-call-determined s memory r r′ e f =
+    let h = graph-determined e f in (
+      graph-one r r′ (ap (λ (x : Outcome GraphSize GraphMemory). x .answer) h),
+      ap (λ (x : Outcome GraphSize GraphMemory). x .memory .pairs) h,
+      ap (λ (x : Outcome GraphSize GraphMemory). x .memory .counts) h,
+    )

@@ -1,2 +1,5 @@
 pub mod Determined
-pub mod Forms
+pub mod Graphing
+pub mod Pairing
+pub mod Tabling
+pub mod Texts

@@ -1,1 +1,4 @@
+pub mod Lent
+pub mod Paired
 pub mod Paper
+pub mod Tabled

@@ -1,11 +1,18 @@
 -- The answers of the public calls in document 01's numbers and values.
 -- Assumes nothing.
+use mathlib.Core.Bool.{Bool, true, false}
 use mathlib.Core.List.{List}
 use Prim.Native.Nat.{ℕ}
-use Rattle.meaning.specs.Answer.{Answer, accepted, refusal, Outcome}
+use Rattle.meaning.specs.Answer.{Answer, accepted, refusal, Outcome, TableSize, TableMemory, GraphSize, GraphMemory}
 use Rattle.reading.specs.declared.Refusal.{Refusal}
 use Rattle.calls.specs.declared.TextAnswer.{TextAnswer}
 use Rattle.calls.specs.declared.TextAnswer.the-variants.{Written, Refused}
+use Rattle.calls.specs.declared.PairAnswer.{PairAnswer}
+use Rattle.calls.specs.declared.PairAnswer.the-variants as pair
+use Rattle.calls.specs.declared.TableAnswer.{TableAnswer}
+use Rattle.calls.specs.declared.TableAnswer.the-variants as table
+use Rattle.calls.specs.declared.GraphAnswer.{GraphAnswer}
+use Rattle.calls.specs.declared.GraphAnswer.the-variants as graph
 
 -- a refusal is its number, which text and the place
 abbrev pub refusalOf : {A : Type 0} → Refusal → Answer A
@@ -19,3 +26,25 @@ textAnswer (Refused x) = refusalOf x
 -- with the lent memory at exit
 abbrev pub textOutcome : TextAnswer → List ℕ → Outcome ℕ (List ℕ)
 textOutcome r out = record { answer = textAnswer r; memory = out }
+
+-- the pair call: yes or no
+abbrev pub pairAnswer : PairAnswer → Answer Bool
+pairAnswer pair.Yes = accepted true
+pairAnswer pair.No = accepted false
+pairAnswer (pair.Refused x) = refusalOf x
+
+-- the table call: the bytes written, and the trees
+abbrev pub tableAnswer : TableAnswer → Answer TableSize
+tableAnswer (table.Written n k) = accepted (record { bytes = n; trees = k })
+tableAnswer (table.Refused x) = refusalOf x
+
+abbrev pub tableOutcome : TableAnswer → List ℕ → List ℕ → Outcome TableSize TableMemory
+tableOutcome r texts ends = record { answer = tableAnswer r; memory = record { texts = texts; ends = ends } }
+
+-- the graph call: the trees, and the pairs
+abbrev pub graphAnswer : GraphAnswer → Answer GraphSize
+graphAnswer (graph.Listed k m) = accepted (record { trees = k; pairs = m })
+graphAnswer (graph.Refused x) = refusalOf x
+
+abbrev pub graphOutcome : GraphAnswer → List ℕ → List ℕ → Outcome GraphSize GraphMemory
+graphOutcome r pairs counts = record { answer = graphAnswer r; memory = record { pairs = pairs; counts = counts } }

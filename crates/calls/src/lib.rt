@@ -2,9 +2,23 @@
 use held::Tree;
 use reading::Refusal;
 use reading::Step;
+use reading::TreeRead;
+use tables::Table;
+use tables::TableRead;
 ghost use mathlib.Core.Path.{_≡_};
-ghost use Rattle.meaning.specs.Calls.{formCall};
-ghost use Rattle.calls.specs.Paper.{textOutcome};
+ghost use mathlib.Core.Bool.{_&&_};
+ghost use Prim.Native.Nat.{_≤_};
+ghost use lib.Dec.{leb};
+ghost use lib.ListN.{length};
+ghost use Rattle.meaning.specs.Tree.{Tree as Topology, Good, canon};
+ghost use Rattle.meaning.specs.Reading.{got, readTree};
+ghost use Rattle.meaning.specs.Calls.{lent, limited, answered, formCall, cutCall, beside, PairCall, tableRead, tableCall, GraphCall};
+ghost use Rattle.held.specs.Held.{nodes, hold};
+ghost use Rattle.calls.specs.Paper.{textOutcome, pairAnswer, tableOutcome, graphOutcome};
+ghost use Rattle.calls.specs.Lent.{LentMeets, RefusedSize, CutRoom, cutText};
+ghost use Rattle.pairs.specs.Pair.{Canonically};
+ghost use Rattle.calls.specs.Paired.{Answers};
+ghost use Rattle.calls.specs.Tabled.{TableLent, RefusedTable, TableRoom, TableWritten};
 
 // What a call that writes a text answers: its bytes, or why it refuses.
 pub enum TextAnswer {
@@ -12,8 +26,8 @@ pub enum TextAnswer {
     Refused(Refusal),
 }
 
-// A refusal that is given before any text is looked at.
-fn refusal_of_size(number: u8, text: u8) -> Refusal
+// A refusal that is given before any text is looked at, or behind it: its place is 0.
+fn refusal_at_zero(number: u8, text: u8) -> Refusal
     ensures { λ r. ⌜ r ≡ record { number = number; text = text; place = 0 } ⌝ }
 {
     Refusal {
@@ -23,20 +37,204 @@ fn refusal_of_size(number: u8, text: u8) -> Refusal
     }
 }
 
+fn refused_size(number: u8) -> TreeRead
+    ensures { λ r. ⌜ RefusedSize r number ⌝ }
+{
+    TreeRead {
+        step: Step::Refused(refusal_at_zero(number, 0)),
+        tree: Tree::empty(),
+    }
+}
+
+// The one tree of s, for a call that is lent `len` cells and asks for `least`.
+fn read_lent(s: &[u8], len: usize, least: usize) -> TreeRead
+    ensures { λ r. ⌜ LentMeets r (lent (leb least len) (limited 0 (now (s .entry)) (answered 0 (readTree (now (s .entry)))))) ⌝ }
+{
+    if len < least {
+        return refused_size(Refusal::SHORT_SLICE);
+    }
+    if Tree::MAX_TEXT < s.len() {
+        return refused_size(Refusal::LONG_TEXT);
+    }
+    reading::read_tree(s)
+}
+
 // Form call: the canonical text of the one tree of s, from the start of out on.
 pub fn form_call(s: &[u8], out: &mut [u8]) -> TextAnswer
     ensures { λ r. ⌜ textOutcome r (now (out .exit)) ≡ formCall (now (s .entry)) (now (out .entry)) ⌝ }
 {
-    if out.len() < Tree::MAX_FORM {
-        return TextAnswer::Refused(refusal_of_size(Refusal::SHORT_SLICE, 0));
-    }
-    if Tree::MAX_TEXT < s.len() {
-        return TextAnswer::Refused(refusal_of_size(Refusal::LONG_TEXT, 0));
-    }
-    let read = reading::read_tree(s);
+    let read = read_lent(s, out.len(), Tree::MAX_FORM);
     let step = read.step;
     match step {
         Step::Refused(x) => TextAnswer::Refused(x),
         Step::Next(_, _) => TextAnswer::Written(writing::write_form(out, 0, read.tree)),
+    }
+}
+
+// Writes the forest text of a cut of a tree that has `count` nodes: it has a cut for each node but its root.
+fn write_cut(out: &mut [u8], tree: Tree, count: usize, cut: usize) -> TextAnswer
+    requires { ⌜ CutRoom (tree .node) count (length (now out)) ⌝ }
+    ensures { λ r. ⌜ ((t : Topology) → Good t → tree .node ≡ hold (canon t) → count ≡ nodes t → textOutcome r (now (out .exit)) ≡ cutText t cut (now (out .entry))) ⌝ }
+{
+    if count - 1 <= cut {
+        return TextAnswer::Refused(refusal_at_zero(Refusal::NO_SUCH_CUT, 0));
+    }
+    TextAnswer::Written(writing::write_forest(out, 0, tree, cut))
+}
+
+// Cut call: the forest text of one cut of the one tree of s, from the start of out on.
+pub fn cut_call(s: &[u8], cut: usize, out: &mut [u8]) -> TextAnswer
+    ensures { λ r. ⌜ textOutcome r (now (out .exit)) ≡ cutCall (now (s .entry)) cut (now (out .entry)) ⌝ }
+{
+    let read = read_lent(s, out.len(), Tree::MAX_FOREST);
+    let step = read.step;
+    match step {
+        Step::Refused(x) => TextAnswer::Refused(x),
+        Step::Next(_, count) => write_cut(out, read.tree, count, cut),
+    }
+}
+
+// What the pair call answers: one move apart or not, or why it refuses.
+pub enum PairAnswer {
+    Yes,
+    No,
+    Refused(Refusal),
+}
+
+// Two trees, the second read from text 1 up to `behind`, where its `;` stands last.
+fn compare(first: Tree, second: Tree, behind: usize) -> PairAnswer
+    requires { ⌜ Canonically (first .node) × Canonically (second .node) × (1 ≤ behind) ⌝ }
+    ensures { λ r. ⌜ ((t u : Topology) → Good t → Good u → first .node ≡ hold (canon t) → second .node ≡ hold (canon u) → Answers (beside t (got u behind)) (pairAnswer r)) ⌝ }
+{
+    if !tables::same_labels(first, second) {
+        return PairAnswer::Refused(Refusal {
+            number: Refusal::LABELS_DIFFER,
+            text: 1,
+            place: behind - 1,
+        });
+    }
+    if pairs::one_move_apart(first, second) {
+        PairAnswer::Yes
+    } else {
+        PairAnswer::No
+    }
+}
+
+// A refusal of the one tree of text 1.
+fn refusal_of_second(x: Refusal) -> Refusal
+    ensures { λ r. ⌜ r ≡ record { number = x .number; text = 1; place = x .place } ⌝ }
+{
+    Refusal {
+        number: x.number,
+        text: 1,
+        place: x.place,
+    }
+}
+
+// The tree of text 0, and text 1.
+fn compare_with_text(first: Tree, s: &[u8]) -> PairAnswer
+    requires { ⌜ Canonically (first .node) ⌝ }
+    ensures { λ r. ⌜ ((t : Topology) → Good t → first .node ≡ hold (canon t) → Answers (beside t (readTree (now (s .entry)))) (pairAnswer r)) ⌝ }
+{
+    let second = reading::read_tree(s);
+    let step = second.step;
+    match step {
+        Step::Refused(x) => PairAnswer::Refused(refusal_of_second(x)),
+        Step::Next(behind, _) => compare(first, second.tree, behind),
+    }
+}
+
+// Pair call: whether one move makes the tree of text 0 that of text 1, and their topologies differ.
+pub fn pair_call(first: &[u8], second: &[u8]) -> PairAnswer
+    ensures { λ r. ⌜ PairCall (now (first .entry)) (now (second .entry)) (pairAnswer r) ⌝ }
+{
+    if Tree::MAX_TEXT < first.len() {
+        return PairAnswer::Refused(refusal_at_zero(Refusal::LONG_TEXT, 0));
+    }
+    if Tree::MAX_TEXT < second.len() {
+        return PairAnswer::Refused(refusal_at_zero(Refusal::LONG_TEXT, 1));
+    }
+    let read = reading::read_tree(first);
+    let step = read.step;
+    match step {
+        Step::Refused(x) => PairAnswer::Refused(x),
+        Step::Next(_, _) => compare_with_text(read.tree, second),
+    }
+}
+
+// What the table call answers: the bytes of text written and the number of trees, or why it refuses.
+pub enum TableAnswer {
+    Written(usize, usize),
+    Refused(Refusal),
+}
+
+fn refused_table(number: u8) -> TableRead
+    ensures { λ r. ⌜ RefusedTable r number ⌝ }
+{
+    TableRead {
+        step: Step::Refused(refusal_at_zero(number, 0)),
+        table: Table::empty(),
+    }
+}
+
+// The trees of a text, for a call that is lent two slices, the second with a number for each tree.
+fn read_lent_table(text: &[u8], cells: usize, least: usize, numbers: usize) -> TableRead
+    ensures { λ r. ⌜ TableLent r (lent (leb least cells && leb 160 numbers) (tableRead (now (text .entry)))) ⌝ }
+{
+    if cells < least {
+        return refused_table(Refusal::SHORT_SLICE);
+    }
+    if numbers < Table::MAX_TREES {
+        return refused_table(Refusal::SHORT_SLICE);
+    }
+    if Tree::MAX_TEXT < text.len() {
+        return refused_table(Refusal::LONG_TEXT);
+    }
+    tables::read_table(text)
+}
+
+// Writes the canonical texts of a table one after another, and the end of each; returns the end of the last.
+fn write_table(texts: &mut [u8], ends: &mut [u32], table: Table) -> usize
+    requires { ⌜ TableRoom table (length (now texts)) (length (now ends)) ⌝ }
+    ensures { λ r. ⌜ TableWritten table (now (texts .entry)) (now (texts .exit)) (now (ends .entry)) (now (ends .exit)) r ⌝ }
+{
+    let mut at = 0;
+    for i in 0..table.len {
+        at = writing::write_form(texts, at, table.trees[i]);
+        ends[i] = at as u32;
+    }
+    at
+}
+
+// Table call: the canonical texts of the trees of s, and the end of each.
+pub fn table_call(s: &[u8], texts: &mut [u8], ends: &mut [u32]) -> TableAnswer
+    ensures { λ r. ⌜ tableOutcome r (now (texts .exit)) (now (ends .exit)) ≡ tableCall (now (s .entry)) (record { texts = now (texts .entry); ends = now (ends .entry) }) ⌝ }
+{
+    let read = read_lent_table(s, texts.len(), Table::MAX_TEXT_BYTES, ends.len());
+    let step = read.step;
+    match step {
+        Step::Refused(x) => TableAnswer::Refused(x),
+        Step::Next(_, count) => TableAnswer::Written(write_table(texts, ends, read.table), count),
+    }
+}
+
+// What the graph call answers: the numbers of trees and of pairs, or why it refuses.
+pub enum GraphAnswer {
+    Listed(usize, usize),
+    Refused(Refusal),
+}
+
+// Graph call: the pairs of trees of s that are one move apart, i and then j of each, and the neighbour count of each tree.
+pub fn graph_call(s: &[u8], pairs: &mut [u16], counts: &mut [u16]) -> GraphAnswer
+    ensures { λ r. ⌜ GraphCall (now (s .entry)) (record { pairs = now (pairs .entry); counts = now (counts .entry) }) (graphOutcome r (now (pairs .exit)) (now (counts .exit))) ⌝ }
+{
+    let read = read_lent_table(s, pairs.len(), Table::MAX_PAIR_NUMBERS, counts.len());
+    let step = read.step;
+    match step {
+        Step::Refused(x) => GraphAnswer::Refused(x),
+        Step::Next(_, count) => GraphAnswer::Listed(
+            count,
+            graph::list_pairs(pairs, counts, read.table),
+        ),
     }
 }

@@ -125,7 +125,7 @@ fn order(out: &mut [u8], at: usize, n: &[u8], low: &[u8], k: usize) -> usize
 }
 
 // Copies `count` bytes of n from `from` on into `out` from `at` on; returns the place behind them.
-fn copy(out: &mut [u8], at: usize, n: &[u8], from: usize, count: usize) -> usize
+pub fn copy(out: &mut [u8], at: usize, n: &[u8], from: usize, count: usize) -> usize
     requires { ⌜ (at + count ≤ length (now out)) × (from + count ≤ length (now n)) ⌝ }
     ensures { λ r. ⌜ Wrote (take count (drop from (now (n .entry)))) (now (out .entry)) (now (out .exit)) at r ⌝ }
 {

@@ -33,7 +33,7 @@ written-behind xs slice k h =
     ap (λ (j : ℕ). drop j (written xs slice)) e ∙ drop-append-add xs (drop (length xs) slice) (k - length xs) ∙ drop-drop (k - length xs) (length xs) slice ∙ sym (ap (λ (j : ℕ). drop j slice) e)
 
 -- an answer that accepts was lent enough
-lent-enough : {A : Type 0} (b : Bool) (a : Answer A) {x : A} → lent b a ≡ accepted x → b ≡ true
+pub lent-enough : {A : Type 0} (b : Bool) (a : Answer A) {x : A} → lent b a ≡ accepted x → b ≡ true
 lent-enough true a e = refl
 lent-enough false a e = let z : _≡_ {A = ℕ} 0 1 = cc in absurd (omega arith)
 

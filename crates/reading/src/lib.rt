@@ -52,7 +52,7 @@ struct Run {
     value: usize,
 }
 
-fn wide(x: u8) -> usize
+pub fn wide(x: u8) -> usize
     ensures { λ r. ⌜ r ≡ x ⌝ }
 {
     x as usize
@@ -133,7 +133,7 @@ fn refused(number: u8, place: usize) -> Step
 }
 
 // Whether v is among the first n nodes.
-fn has_label(node: &[u8], n: usize, v: usize) -> bool
+pub fn has_label(node: &[u8], n: usize, v: usize) -> bool
     requires { ⌜ n ≤ length (now node) ⌝ }
     ensures { λ r. ⌜ r ≡ member v (take n (now (node .entry))) ⌝ }
 {

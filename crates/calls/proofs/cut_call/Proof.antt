@@ -1,0 +1,48 @@
+-- `calls::cut_call` meets its contract.
+-- Assumes nothing.
+use Rattle.calls.proofs.Texts.{cut-refused, cut-room, cut-done}
+use borrow.Author.Needs.{needs}
+use Rattle.calls.proofs.cut_call.Statement.{statement}
+use Rattle.calls.proofs.cut_call.Tie as tie
+
+read-lent-requires : tie.Need-read-lent-requires
+read-lent-requires c κs = search needs
+
+enum-known-step : tie.Need-enum-known-step
+enum-known-step c = search needs
+
+enum-known-step-2 : tie.Need-enum-known-step-2
+enum-known-step-2 c = search needs
+
+write-cut-requires : tie.Need-write-cut-requires
+write-cut-requires c κs =
+    let d = c .before .before .before .before in
+    let a = d .before .before .before .args in
+    cut-room (a .s .now) (a .cut) (a .out .now) (d .read-lent .ensures) (c .before .before .step2 .given .1)
+
+returns : tie.Need-returns
+returns c =
+    let d = c .before .before .before in
+    let a = d .before .before .before .args in
+    cut-refused (a .s .now) (a .cut) (a .out .now) (d .read-lent .ensures) (c .before .step .given .1)
+
+same-length : tie.Need-same-length
+same-length c = search needs
+
+returns-2 : tie.Need-returns-2
+returns-2 c =
+    let d = c .before .before .before .before .before .before .before in
+    let a = d .before .before .before .args in
+    cut-done (a .s .now) (a .cut) (a .out .now) (d .read-lent .ensures) (c .before .before .before .before .before .step2 .given .1) (c .before .before .write-cut .result) (c .before .before .write-cut .ensures)
+
+pub cut-call-spec : {M : Type 1} → statement M
+cut-call-spec =
+    tie.close
+    (tie.spec
+    read-lent-requires
+    enum-known-step
+    enum-known-step-2
+    write-cut-requires
+    returns
+    same-length
+    returns-2)

@@ -1,0 +1,80 @@
+-- Lemma 2.2 for held trees: the trees of two topologies are one move apart exactly when they differ and share a forest.
+-- Assumes nothing.
+use mathlib.Core.Path.{_≡_, sym, ap, _∙_}
+use mathlib.Core.Bool.{Bool}
+use mathlib.Core.List.{List}
+use Prim.Native.Nat.{ℕ, _<_}
+use native.Mathlib.Omega.{arith}
+use lib.ListN.{length}
+use Rattle.meaning.specs.Tree.{Tree, Good, Distinct, canon}
+use Rattle.meaning.specs.Move.{OneMove, Apart, Cut, cuts}
+use Rattle.meaning.proofs.Canon.{canon-good, canon-canonical, canonical-canon, topology-iff-canon}
+use Rattle.meaning.proofs.Forests.{move-canon, canon-move}
+use Rattle.meaning.proofs.Length.{leaves-64}
+use Rattle.meaning.proofs.Moves.{At, number, prune-cut}
+use Rattle.held.specs.Held.{Holds, Held, hold, cutIn}
+use Rattle.held.proofs.Laws.{twice, holding}
+use Rattle.held.proofs.Cut.{cut-is, canonical-pruned}
+use Rattle.pairs.specs.Pair.{Says, Canonically, SharesForest}
+use Rattle.pairs.proofs.Answers.{says}
+
+-- the array of a topology's canonical form holds that
+pub canon-holds : {xs : List ℕ} {t : Tree} → Good t → xs ≡ hold (canon t) → Holds xs 0 (canon t)
+canon-holds {t} G e =
+    let C = canon-good G in
+    rw e (holding (canon t) (C .small) (omega (arith, leaves-64 C, twice (canon t))))
+
+pub canon-held : {xs : List ℕ} → Canonically xs → Held xs 0
+canon-held p = record { tree = canon (p .tree); holds = canon-holds (p .good) (p .held) }
+
+-- a cut's number
+numbered-cut : (t : Tree) {k : Cut} → At t k → (c : ℕ) × (c < length (cuts t)) × (cutIn t c ≡ k)
+numbered-cut t p = number (record { rest = t; pruned = t }) (prune-cut p)
+
+-- what is pruned of a canonical tree is canonical
+pruned-canon : (t : Tree) → Distinct t → {c : ℕ} → c < length (cuts (canon t)) → canon (cutIn (canon t) c .pruned) ≡ cutIn (canon t) c .pruned
+pruned-canon t D {c} lt = canonical-canon (cutIn (canon t) c .pruned) (canonical-pruned (canon t) c lt (canon-canonical t D))
+
+module _ {t u : Tree} (G : Good t) (H : Good u) where
+  abbrev D : Distinct t
+  D = G .distinct
+
+  abbrev E : Distinct u
+  E = H .distinct
+
+  share-move : SharesForest (canon t) (canon u) → OneMove t u
+  share-move s =
+      canon-move D
+      (record {
+        one = cutIn (canon t) (s .cut);
+        two = cutIn (canon u) (s .cut′);
+        cut-one = cut-is (canon t) (s .cut) (s .is-cut);
+        cut-two = cut-is (canon u) (s .cut′) (s .is-cut′);
+        rest = s .same .rest;
+        pruned = ap canon (s .same .pruned);
+      })
+
+  move-share : OneMove t u → SharesForest (canon t) (canon u)
+  move-share m =
+      let k = move-canon D E m in
+      let (c, lt, e) = numbered-cut (canon t) (k .cut-one) in
+      let (d, lt′, e′) = numbered-cut (canon u) (k .cut-two) in
+      record {
+        cut = c;
+        cut′ = d;
+        is-cut = lt;
+        is-cut′ = lt′;
+        same =
+            record {
+              pruned =
+                  sym (pruned-canon t D lt) ∙ ap (λ (x : Cut). canon (x .pruned)) e ∙ k .pruned
+                  ∙ sym (ap (λ (x : Cut). canon (x .pruned)) e′) ∙ pruned-canon u E lt′;
+              rest = ap (λ (x : Cut). canon (x .rest)) e ∙ k .rest ∙ sym (ap (λ (x : Cut). canon (x .rest)) e′);
+            };
+      }
+
+  pub not-apart : canon t ≡ canon u → ¬ Apart t u
+  not-apart e a = a .0 (topology-iff-canon D E .1 e)
+
+  pub says-apart : ¬ (canon t ≡ canon u) → (r : Bool) → Says r (SharesForest (canon t) (canon u)) → Says r (Apart t u)
+  says-apart differ r = says (SharesForest (canon t) (canon u)) (Apart t u) (λ s. (λ e. differ (topology-iff-canon D E .0 e), share-move s)) (λ a. move-share (a .1)) r
