@@ -1,19 +1,15 @@
 -- The ways through the graph call.
 -- Assumes nothing.
 use mathlib.Core.Path.{_≡_, subst, _∙_}
-use mathlib.Core.Bool.{true, _&&_}
 use mathlib.Core.List.{List}
-use Prim.Native.Nat.{ℕ}
+use Prim.Native.Nat.{ℕ, _≤_}
 use native.Mathlib.Omega.{arith}
-use borrow.Author.Tests.{leb-true}
-use lib.Dec.{leb}
 use lib.ListN.{length}
 use Rattle.meaning.specs.Listing.{counts, flat}
 use Rattle.meaning.specs.Answer.{accepted, Outcome, GraphSize, GraphMemory, written}
 use Rattle.meaning.specs.Calls.{tableRead, graphRead, GraphCall, GraphBy, lists}
 use Rattle.meaning.proofs.Counts.{counts-length, flat-few}
-use Rattle.meaning.proofs.Memory.{lent-enough}
-use Rattle.meaning.proofs.Scan.{and-left, and-right}
+use Rattle.meaning.proofs.Memory.{lent-both}
 use Rattle.reading.specs.declared.Refusal.{Refusal}
 use Rattle.reading.specs.declared.Step.the-variants.{Next, Refused as StepRefused}
 use Rattle.tables.specs.declared.TableRead.{TableRead}
@@ -31,8 +27,8 @@ module _ (s : List ℕ) (memory : GraphMemory) {r : TableRead} (m : TableLent r 
     read : GivenTable r (graphRead s memory) k
     read = table-next m e
 
-    enough : (leb 25440 (length (memory .pairs)) && leb 160 (length (memory .counts))) ≡ true
-    enough = lent-enough (leb 25440 (length (memory .pairs)) && leb 160 (length (memory .counts))) (tableRead s) (read .is)
+    enough : (25440 ≤ length (memory .pairs)) × (160 ≤ length (memory .counts))
+    enough = lent-both 25440 (length (memory .pairs)) 160 (length (memory .counts)) (tableRead s) (read .is)
 
     pub graph-room : GraphRoom (r .table) (length (memory .pairs)) (length (memory .counts))
     graph-room = record {
@@ -40,8 +36,8 @@ module _ (s : List ℕ) (memory : GraphMemory) {r : TableRead} (m : TableLent r 
       holds = read .holds;
       good = read .good;
       few = read .few;
-      pairs-room = leb-true 25440 (length (memory .pairs)) (and-left (leb 25440 (length (memory .pairs))) (leb 160 (length (memory .counts))) enough);
-      counts-room = leb-true 160 (length (memory .counts)) (and-right (leb 25440 (length (memory .pairs))) (leb 160 (length (memory .counts))) enough);
+      pairs-room = enough .0;
+      counts-room = enough .1;
     }
 
     pub graph-listed : {pairs′ counts′ : List ℕ} {n : ℕ} → GraphWritten (r .table) (memory .pairs) pairs′ (memory .counts) counts′ n → GraphCall s memory (graphOutcome (Listed k n) pairs′ counts′)

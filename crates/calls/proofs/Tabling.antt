@@ -1,13 +1,13 @@
 -- The ways through the table call, and the loop that writes a table.
 -- Assumes nothing.
 use mathlib.Core.Path.{_≡_, refl, sym, ap, subst, subst₂, _∙_}
-use mathlib.Core.Bool.{true, _&&_}
+use mathlib.Core.Bool.{_&&_}
 use mathlib.Core.List.{List, [], _∷_, _++_, append-nil, append-assoc}
 use Prim.Native.Nat.{ℕ, zero, suc, _+_, _*_, _≤_, _<_}
 use native.Mathlib.Nat.{zero-add}
 use native.Mathlib.Numerals.{add-one}
 use native.Mathlib.Omega.{arith}
-use borrow.Author.Tests.{le-leb, lt-leb, leb-true, le-ltb, lt-ltb}
+use borrow.Author.Tests.{le-leb, lt-leb, le-ltb, lt-ltb}
 use lib.Dec.{leb}
 use lib.ListN.{length, take, drop, set, length-append}
 use lib.Seq.{sets, sets-eq, take-suc, take-all, length-take-le}
@@ -17,9 +17,8 @@ use Rattle.meaning.specs.Listing.{treeOf}
 use Rattle.meaning.specs.Answer.{Answer, accepted, refusal, TableMemory, written}
 use Rattle.meaning.specs.Calls.{lent, answered, tableRead, ends, tableCallRead, tableOf, tableCall}
 use Rattle.meaning.proofs.Length.{form-length}
-use Rattle.meaning.proofs.Memory.{lent-enough, forms-length, ends-length}
-use Rattle.meaning.proofs.Scan.{and-left, and-right}
-use Rattle.meaning.proofs.TableText.{AllGood, table-good, table-few}
+use Rattle.meaning.proofs.Memory.{lent-both, forms-length, ends-length}
+use Rattle.meaning.proofs.TableText.{AllGood, good-at, table-good, table-few}
 use Rattle.held.specs.Held.{Wrote, hold}
 use Rattle.held.proofs.Write.{wrote-one, wrote-more, wrote-length}
 use Rattle.reading.specs.declared.Refusal.{Refusal}
@@ -99,11 +98,6 @@ pub part-none : (table : Table) (texts numbers : List ℕ) → Part table texts 
 unfolding forms ends
 part-none table texts numbers ts h g = (record { behind = refl; bytes = refl }, record { behind = refl; bytes = refl })
 
-good-at : (ts : List Tree) → AllGood ts → (i : ℕ) → i < length ts → Good (treeOf ts i)
-good-at [] g i h = absurd (omega arith)
-good-at (t ∷ ts) g zero h = g .0
-good-at (t ∷ ts) g (suc i) h = good-at ts (g .1) i (omega arith)
-
 good-take : (ts : List Tree) → AllGood ts → (i : ℕ) → AllGood (take i ts)
 good-take [] g zero = tt
 good-take [] g (suc i) = tt
@@ -167,8 +161,8 @@ module _ (s : List ℕ) (memory : TableMemory) {r : TableRead} (m : TableLent r 
     read : GivenTable r (tableCallRead s memory) k
     read = table-next m e
 
-    enough : (leb 49440 (length (memory .texts)) && leb 160 (length (memory .ends))) ≡ true
-    enough = lent-enough (leb 49440 (length (memory .texts)) && leb 160 (length (memory .ends))) (tableRead s) (read .is)
+    enough : (49440 ≤ length (memory .texts)) × (160 ≤ length (memory .ends))
+    enough = lent-both 49440 (length (memory .texts)) 160 (length (memory .ends)) (tableRead s) (read .is)
 
     pub call-room : TableRoom (r .table) (length (memory .texts)) (length (memory .ends))
     call-room = record {
@@ -176,8 +170,8 @@ module _ (s : List ℕ) (memory : TableMemory) {r : TableRead} (m : TableLent r 
       holds = read .holds;
       good = read .good;
       few = read .few;
-      texts-room = leb-true 49440 (length (memory .texts)) (and-left (leb 49440 (length (memory .texts))) (leb 160 (length (memory .ends))) enough);
-      ends-room = leb-true 160 (length (memory .ends)) (and-right (leb 49440 (length (memory .texts))) (leb 160 (length (memory .ends))) enough);
+      texts-room = enough .0;
+      ends-room = enough .1;
     }
 
     pub call-written : {texts′ numbers′ : List ℕ} {n : ℕ} → TableWritten (r .table) (memory .texts) texts′ (memory .ends) numbers′ n → tableOutcome (Written n k) texts′ numbers′ ≡ tableCall s memory

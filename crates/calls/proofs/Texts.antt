@@ -6,7 +6,7 @@ use mathlib.Core.List.{List, _++_}
 use Prim.Native.Nat.{ℕ, _-_, _*_, _≤_, _<_}
 use native.Mathlib.Nat.{zero-add}
 use native.Mathlib.Omega.{arith}
-use borrow.Author.Tests.{le-leb, lt-leb, leb-true, le-ltb, lt-ltb}
+use borrow.Author.Tests.{le-leb, lt-leb, le-ltb, lt-ltb}
 use lib.Dec.{leb, ltb}
 use lib.ListN.{length, drop}
 use lib.Seq.{sets, sets-eq}
@@ -17,7 +17,7 @@ use Rattle.meaning.specs.Answer.{Answer, accepted, refusal, Outcome, written, t
 use Rattle.meaning.specs.Calls.{lent, limited, answered, formRead, formCall, hasCut, cutRead, cutCall}
 use Rattle.meaning.proofs.Forests.{cutAt-good}
 use Rattle.meaning.proofs.Length.{form-length, forest-length}
-use Rattle.meaning.proofs.Memory.{lent-enough}
+use Rattle.meaning.proofs.Memory.{lent-one}
 use Rattle.meaning.proofs.Sound.{read-good}
 use Rattle.held.specs.Held.{nodes, Wrote, hold}
 use Rattle.held.proofs.Laws.{twice, some-nodes}
@@ -91,7 +91,7 @@ module _ (s out : List ℕ) {r : TreeRead} (m : LentMeets r (formRead s out)) wh
     read = lent-next m e
 
     room : 309 ≤ length out
-    room = leb-true 309 (length out) (lent-enough (leb 309 (length out)) (limited 0 s (answered 0 (readTree s))) (read .is))
+    room = lent-one 309 (length out) (limited 0 s (answered 0 (readTree s))) (read .is)
 
     pub form-fits : FormFits (r .tree .node) 0 (length out)
     form-fits = record { tree = read .tree; good = read .good; held = read .held; room = omega (arith, form-length (read .good), room) }
@@ -149,7 +149,7 @@ module _ (s : List ℕ) (c : ℕ) (out : List ℕ) where
       cut-read = lent-next m e
 
       pub cut-room : CutRoom (r .tree .node) k (length out)
-      cut-room = record { tree = cut-read .tree; good = cut-read .good; held = cut-read .held; size = cut-read .size; room = leb-true 307 (length out) (lent-enough (leb 307 (length out)) (limited 0 s (answered 0 (readTree s))) (cut-read .is)) }
+      cut-room = record { tree = cut-read .tree; good = cut-read .good; held = cut-read .held; size = cut-read .size; room = lent-one 307 (length out) (limited 0 s (answered 0 (readTree s))) (cut-read .is) }
 
       pub cut-done : {out′ : List ℕ} (a : TextAnswer) → ((t : Tree) → Good t → r .tree .node ≡ hold (canon t) → k ≡ nodes t → textOutcome a out′ ≡ cutText t c out) → textOutcome a out′ ≡ cutCall s c out
       cut-done a w = w (cut-read .tree) (cut-read .good) (cut-read .held) (cut-read .size) ∙ cut-accepted (cut-read .is)

@@ -4,7 +4,7 @@ use mathlib.Core.Path.{_≡_, refl, ap, _∙_}
 use mathlib.Core.Logic.{_↔_}
 use mathlib.Core.Bool.{Bool, true, false}
 use mathlib.Core.List.{List, [], _∷_, _++_}
-use Prim.Native.Nat.{ℕ, zero, suc, _+_, _*_, _≤_, _<_}
+use Prim.Native.Nat.{ℕ, _+_, _*_, _≤_, _<_}
 use native.Mathlib.Omega.{arith}
 use lib.Dec.{T}
 use lib.ListN.{length, getD, replicate, length-append}
@@ -15,7 +15,7 @@ use Rattle.meaning.specs.Listing.{Pair, Listing, treeOf, neighbours, counts, fl
 use Rattle.meaning.proofs.Decide.{apart-iff}
 use Rattle.meaning.proofs.Listing.{pairsFrom, left, left-begin, left-take, left-skip, left-end, all-listed}
 use Rattle.meaning.proofs.Counts.{counts-length, counts-at, neighbours-append, neighbours-le, counts-none, listing-few}
-use Rattle.meaning.proofs.TableText.{AllGood}
+use Rattle.meaning.proofs.TableText.{AllGood, good-at}
 use Rattle.meaning.proofs.Calls.{pairsIn, pairs-listed}
 use Rattle.held.specs.Held.{Wrote, hold}
 use Rattle.held.proofs.Write.{wrote-length}
@@ -53,11 +53,6 @@ abbrev pub Carries : Table → (List Topology → List Pair) → List ℕ → Li
 Carries table rest pairs numbers m rest′ pairs′ numbers′ m′ = (first first′ : List ℕ) → State table rest first pairs first′ numbers m → State table rest′ first pairs′ first′ numbers′ m′
 
 -- ---- the table's trees
-good-at : (ts : List Topology) → AllGood ts → (i : ℕ) → i < length ts → Good (treeOf ts i)
-good-at [] g i h = absurd (omega arith)
-good-at (t ∷ ts) g zero h = g .0
-good-at (t ∷ ts) g (suc i) h = good-at ts (g .1) i (omega arith)
-
 module _ {table : Table} {pairs numbers : ℕ} (room : GraphRoom table pairs numbers) where
   pub few-trees : table .len ≤ 160
   few-trees = omega (arith, room .holds .count, room .few)

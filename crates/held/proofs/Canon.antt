@@ -1,4 +1,4 @@
--- The canonical order, fork by fork, and the least labels that are noted for it.
+-- The canonical order, fork by fork, the least labels that are noted for it, and what an array in that order holds.
 -- Assumes nothing.
 use mathlib.Core.Path.{_≡_, refl, sym, ap, ap₂, _∙_}
 use mathlib.Core.Bool.{Bool, cond}
@@ -10,11 +10,12 @@ use borrow.Author.Tests.{le-leb, lt-leb}
 use lib.Dec.{leb}
 use lib.ListN.{length, take, drop, getD, set, length-append}
 use lib.Seq.{drop-at, length-take-le, sets, sets-eq, length-sets}
-use Rattle.meaning.specs.Tree.{Tree, leaf, fork, leaves, least, canon}
+use Rattle.meaning.specs.Tree.{Tree, leaf, fork, Good, leaves, least, canon}
 use Rattle.meaning.proofs.Same.{_≈_, one, same, swap, ≈-leaves}
-use Rattle.meaning.proofs.Canon.{canon-≈}
-use Rattle.held.specs.Held.{nodes, pre, leasts, Holds, Wrote, Noted, Marks}
-use Rattle.held.proofs.Laws.{head-is, head-in, next-is, skip, length-pre, twice, ForkAt, leafed, each-is}
+use Rattle.meaning.proofs.Canon.{canon-≈, canon-good}
+use Rattle.meaning.proofs.Length.{leaves-64}
+use Rattle.held.specs.Held.{nodes, pre, leasts, Holds, Wrote, Noted, Marks, hold}
+use Rattle.held.proofs.Laws.{head-is, head-in, next-is, skip, length-pre, twice, ForkAt, leafed, each-is, holding}
 use Rattle.held.proofs.Write.{sets-append, set-sets, wrote-one, wrote-fork}
 
 -- the canonical order keeps the least label, the leaves and the nodes
@@ -145,3 +146,9 @@ module _ {xs low : List ℕ} {k : ℕ} {t : Tree} (f : ForkAt xs k t) (m : Marks
           → Wrote (pre (canon (f .second))) (set out at (getD xs k 0)) o₁ (at + 1) r₁ → Wrote (pre (canon (f .first))) o₁ o₂ r₁ r₂
           → (u : Tree) → Holds xs k u → Wrote (pre (canon u)) out o₂ at r₂
       ordered-swap lt = ordered f (f .second) (f .first) (canon-swap (f .first) (f .second) (omega (arith, mark-is marks-first, mark-is marks-second))) (omega arith)
+
+-- ---- what an array that is a canonical form holds
+pub canon-holds : {xs : List ℕ} {t : Tree} → Good t → xs ≡ hold (canon t) → Holds xs 0 (canon t)
+canon-holds {t} G e =
+    let C = canon-good G in
+    rw e (holding (canon t) (C .small) (omega (arith, leaves-64 C, twice (canon t))))

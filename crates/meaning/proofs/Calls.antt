@@ -10,7 +10,7 @@ use native.Mathlib.Decide.{ℕ-discrete, decLe}
 use borrow.Author.Tests.{ltb-true}
 use lib.Dec.{T, ltb, leb}
 use lib.ListN.{length}
-use Rattle.meaning.specs.Tree.{Tree, Distinct, Good, SameClade, leaves}
+use Rattle.meaning.specs.Tree.{Tree, Good, SameClade, leaves}
 use Rattle.meaning.specs.Move.{Apart}
 use Rattle.meaning.specs.Reading.{Read, got, refused, readTree, readTable, sameLabels}
 use Rattle.meaning.specs.Grammar.{OneText, TableText}
@@ -23,7 +23,7 @@ use Rattle.meaning.proofs.Decide.{apart-iff}
 use Rattle.meaning.proofs.Listing.{pairsOf, apart-listing}
 use Rattle.meaning.proofs.Sound.{read-iff, read-good, read-behind}
 use Rattle.meaning.proofs.Alike.{same-labels-iff}
-use Rattle.meaning.proofs.TableText.{AllGood, table-iff, table-good}
+use Rattle.meaning.proofs.TableText.{AllGood, good-at, table-iff, table-good}
 use Rattle.meaning.proofs.Places.{Standing, read-refused, table-refused}
 
 -- P holds of what is accepted, or Q of the refusal
@@ -182,17 +182,12 @@ pair-exists s s′ = by (pairRead s s′) refl
     by (accepted x) e = decided (x .0) (x .1) e (apart? (x .0) (x .1)) refl
     by (refusal n i p) e = (refusal n i p, PairCall.refuses n i p e)
 
-good-at : (ts : List Tree) → AllGood ts → (i : ℕ) → i < length ts → Distinct (treeOf ts i)
-good-at [] g i h = absurd (omega arith)
-good-at (t ∷ ts) g zero h = g .0 .distinct
-good-at (t ∷ ts) g (suc i) h = good-at ts (g .1) i (omega arith)
-
 -- the pairs of a table, by computation
 abbrev pub pairsIn : List Tree → List Pair
 pairsIn ts = pairsOf (length ts) (λ i j. apart? (treeOf ts i) (treeOf ts j))
 
 pub pairs-listed : (ts : List Tree) → AllGood ts → Listing (length ts) (At Apart ts) (pairsIn ts)
-pairs-listed ts g = apart-listing ts (good-at ts g)
+pairs-listed ts g = apart-listing ts (λ i h. good-at ts g i h .distinct)
 
 pub graph-exists : (s : List ℕ) (memory : GraphMemory) → (o : Outcome GraphSize GraphMemory) × GraphCall s memory o
 graph-exists s memory = by (graphRead s memory) refl

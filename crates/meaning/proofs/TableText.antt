@@ -4,11 +4,12 @@ use mathlib.Core.Path.{_≡_, refl, sym, ap, subst, _∙_}
 use mathlib.Core.Logic.{_↔_}
 use mathlib.Core.Bool.{true}
 use mathlib.Core.List.{List, [], _∷_, _++_, append-nil, append-assoc}
-use Prim.Native.Nat.{ℕ, zero, suc, _+_, _-_, _≤_}
+use Prim.Native.Nat.{ℕ, zero, suc, _+_, _-_, _≤_, _<_}
 use native.Mathlib.Omega.{arith}
 use lib.ListN.{length, drop, length-drop}
 use Rattle.meaning.specs.Tree.{Tree, Good}
 use Rattle.meaning.specs.Reading.{got, isBlank, skip, nodeAt, readNode, treeAt, likeFirst, tableFrom, readTable}
+use Rattle.meaning.specs.Listing.{treeOf}
 use Rattle.meaning.specs.Grammar.{AllAlike, TreesText, none, more, TableText}
 use Rattle.meaning.proofs.Scan.{past-past, skip-le}
 use Rattle.meaning.proofs.Ways.{Gives, refuses, gives-got, gives-map, then-gives, end-gives, like-gives, table-ends, table-next}
@@ -20,6 +21,11 @@ use Rattle.meaning.proofs.Alike.{Like, like-none, like-more, like-first
 abbrev pub AllGood : List Tree → Type 0
 AllGood [] = Unit {0}
 AllGood (t ∷ ts) = Good t × AllGood ts
+
+pub good-at : (ts : List Tree) → AllGood ts → (i : ℕ) → i < length ts → Good (treeOf ts i)
+good-at [] g i h = absurd (omega arith)
+good-at (t ∷ ts) g zero h = g .0
+good-at (t ∷ ts) g (suc i) h = good-at ts (g .1) i (omega arith)
 
 -- trees of a text are good
 trees-good : {ts : List Tree} {x : List ℕ} → TreesText ts x → AllGood ts

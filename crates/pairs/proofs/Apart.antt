@@ -4,26 +4,19 @@ use mathlib.Core.Path.{_≡_, sym, ap, _∙_}
 use mathlib.Core.Bool.{Bool}
 use mathlib.Core.List.{List}
 use Prim.Native.Nat.{ℕ, _<_}
-use native.Mathlib.Omega.{arith}
 use lib.ListN.{length}
 use Rattle.meaning.specs.Tree.{Tree, Good, Distinct, canon}
 use Rattle.meaning.specs.Move.{OneMove, Apart, Cut, cuts}
-use Rattle.meaning.proofs.Canon.{canon-good, canon-canonical, canonical-canon, topology-iff-canon}
+use Rattle.meaning.proofs.Canon.{canon-canonical, canonical-canon, topology-iff-canon}
 use Rattle.meaning.proofs.Forests.{move-canon, canon-move}
-use Rattle.meaning.proofs.Length.{leaves-64}
 use Rattle.meaning.proofs.Moves.{At, number, prune-cut}
-use Rattle.held.specs.Held.{Holds, Held, hold, cutIn}
-use Rattle.held.proofs.Laws.{twice, holding}
+use Rattle.held.specs.Held.{Held, cutIn}
+use Rattle.held.proofs.Canon.{canon-holds}
 use Rattle.held.proofs.Cut.{cut-is, canonical-pruned}
 use Rattle.pairs.specs.Pair.{Says, Canonically, SharesForest}
 use Rattle.pairs.proofs.Answers.{says}
 
 -- the array of a topology's canonical form holds that
-pub canon-holds : {xs : List ℕ} {t : Tree} → Good t → xs ≡ hold (canon t) → Holds xs 0 (canon t)
-canon-holds {t} G e =
-    let C = canon-good G in
-    rw e (holding (canon t) (C .small) (omega (arith, leaves-64 C, twice (canon t))))
-
 pub canon-held : {xs : List ℕ} → Canonically xs → Held xs 0
 canon-held p = record { tree = canon (p .tree); holds = canon-holds (p .good) (p .held) }
 

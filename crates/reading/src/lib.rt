@@ -46,10 +46,15 @@ pub struct TreeRead {
     pub tree: Tree,
 }
 
-// A run of digits: where it ends, and its value or 65, whichever is less.
+// A run of digits: where it ends, and its value or `TOO_LARGE`, whichever is less.
 struct Run {
     end: usize,
     value: usize,
+}
+
+impl Run {
+    // One above the largest label: no larger value has to be told apart.
+    const TOO_LARGE: usize = 65;
 }
 
 pub fn wide(x: u8) -> usize
@@ -102,7 +107,7 @@ pub fn skip_blanks(s: &[u8], from: usize) -> usize
     i
 }
 
-// The run of digits at a place. A value above 64 is held at 65, so that no run is too long.
+// The run of digits at a place. A value above 64 is held down, so that no run is too long.
 fn digit_run(s: &[u8], from: usize) -> Run
     ensures { λ r. ⌜ (r .end ≡ runEnd (now (s .entry)) from) × (r .value ≡ min 65 (value (now (s .entry)) from)) ⌝ }
 {
@@ -114,8 +119,8 @@ fn digit_run(s: &[u8], from: usize) -> Run
             return Run { end: i, value: v };
         }
         v = v * 10 + wide(b - b'0');
-        if 65 < v {
-            v = 65;
+        if Run::TOO_LARGE < v {
+            v = Run::TOO_LARGE;
         }
         i += 1;
     }

@@ -3,8 +3,10 @@ use calls::GraphAnswer;
 use calls::PairAnswer;
 use calls::TableAnswer;
 use calls::TextAnswer;
+use held::Tree;
 use libc::STDOUT_FILENO;
 use reading::Refusal;
+use tables::Table;
 
 fn print(text: &[u8]) {
     io::write_all(STDOUT_FILENO, text);
@@ -42,7 +44,7 @@ fn print_text(answer: TextAnswer, out: &[u8]) {
 }
 
 fn form(text: &[u8]) {
-    let mut out = [0u8; 309];
+    let mut out = [0u8; Tree::MAX_FORM];
     print(b"form ");
     print(text);
     print(b" : ");
@@ -51,7 +53,7 @@ fn form(text: &[u8]) {
 }
 
 fn cut(text: &[u8], number: usize) {
-    let mut out = [0u8; 307];
+    let mut out = [0u8; Tree::MAX_FOREST];
     print(b"cut ");
     print_number(number);
     print(b" of ");
@@ -77,8 +79,8 @@ fn pair(first: &[u8], second: &[u8]) {
 
 // The last tree's end is the number of bytes.
 fn table(text: &[u8]) {
-    let mut texts = [0u8; 49440];
-    let mut ends = [0u32; 160];
+    let mut texts = [0u8; Table::MAX_TEXT_BYTES];
+    let mut ends = [0u32; Table::MAX_TREES];
     let answer = calls::table_call(text, &mut texts, &mut ends);
     match answer {
         TableAnswer::Written(bytes, trees) => {
@@ -123,8 +125,8 @@ fn print_counts(counts: &[u16], number: usize) {
 }
 
 fn graph(text: &[u8]) {
-    let mut pairs = [0u16; 25440];
-    let mut counts = [0u16; 160];
+    let mut pairs = [0u16; Table::MAX_PAIR_NUMBERS];
+    let mut counts = [0u16; Table::MAX_TREES];
     print(b"graph ");
     print(text);
     print(b" : ");
@@ -144,20 +146,20 @@ fn graph(text: &[u8]) {
 
 // A slice one byte shorter than is asked for, with a text that would be refused too.
 fn short_slices() {
-    let mut form_bytes = [0u8; 308];
+    let mut form_bytes = [0u8; Tree::MAX_FORM - 1];
     print(b"308 bytes for a form : ");
     let answer = calls::form_call(b"", &mut form_bytes);
     print_text(answer, &form_bytes);
-    let mut forest_bytes = [0u8; 306];
+    let mut forest_bytes = [0u8; Tree::MAX_FOREST - 1];
     print(b"306 bytes for a forest : ");
     let answer = calls::cut_call(b"", 0, &mut forest_bytes);
     print_text(answer, &forest_bytes);
 }
 
 fn long_texts() {
-    let blanks = [b' '; 65535];
-    let more = [b' '; 65536];
-    let mut out = [0u8; 309];
+    let blanks = [b' '; Tree::MAX_TEXT];
+    let more = [b' '; Tree::MAX_TEXT + 1];
+    let mut out = [0u8; Tree::MAX_FORM];
     print(b"65,535 blanks : ");
     let answer = calls::form_call(&blanks, &mut out);
     print_text(answer, &out);

@@ -7,25 +7,18 @@ use native.Mathlib.Omega.{arith}
 use lib.ListN.{length, length-append}
 use Rattle.meaning.specs.Tree.{Tree, fork, In, Good, leaves, canon, write}
 use Rattle.meaning.specs.Move.{Cut, cuts, cutAt, forest}
-use Rattle.meaning.proofs.Canon.{canon-good, canon-canonical, canonical-canon}
+use Rattle.meaning.proofs.Canon.{canon-canonical, canonical-canon}
 use Rattle.meaning.proofs.Forests.{cuts-canon, cutAt-good}
-use Rattle.meaning.proofs.Length.{leaves-64}
 use Rattle.held.specs.Held.{Holds, Room, Wrote, HasCut, hold, cutIn}
-use Rattle.held.proofs.Laws.{twice, holding, unique}
+use Rattle.held.proofs.Laws.{unique}
 use Rattle.held.proofs.Write.{wrote-more, wrote-length}
-use Rattle.held.proofs.Canon.{leaves-canon}
+use Rattle.held.proofs.Canon.{leaves-canon, canon-holds}
 use Rattle.held.proofs.Cut.{cut-holds, canonical-pruned, cutIn-cutAt}
 use Rattle.writing.specs.Writing.{FormFits, ForestFits}
 
 -- the second component of a cut is a good tree
 good-second : {a b : Tree} → Good (fork a b) → Good b
 good-second G = record { distinct = G .distinct .1; small = λ l i. G .small l (In.second i) }
-
--- an array that has the canonical form of a tree holds it
-pub canon-holds : {t : Tree} → Good t → {xs : List ℕ} → xs ≡ hold (canon t) → Holds xs 0 (canon t)
-canon-holds {t} G e =
-    let H = canon-good G in
-    rw e (holding (canon t) (H .small) (omega (arith, twice (canon t), leaves-64 H)))
 
 -- the canonical text, with its semicolon
 pub room-form : {xs : List ℕ} {at len : ℕ} → FormFits xs at len → Room (λ t. at + length (write t) + 1) xs 0 len

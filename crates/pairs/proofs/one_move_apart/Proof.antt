@@ -3,7 +3,8 @@ use mathlib.Core.Path.{_≡_}
 use Rattle.meaning.specs.Tree.{canon}
 use Rattle.held.specs.Held.{Held}
 use Rattle.pairs.proofs.Answers.{said, denied}
-use Rattle.pairs.proofs.Apart.{canon-holds, canon-held, not-apart, says-apart}
+use Rattle.held.proofs.Canon.{canon-holds}
+use Rattle.pairs.proofs.Apart.{canon-held, not-apart, says-apart}
 use Rattle.pairs.proofs.one_move_apart.Statement.{statement}
 use Rattle.pairs.proofs.one_move_apart.Tie as tie
 

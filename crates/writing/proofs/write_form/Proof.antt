@@ -1,7 +1,8 @@
 -- `writing::write_form` meets its contract. Assumes nothing.
 use borrow.Author.Needs.{needs}
 use Rattle.meaning.specs.Tree.{canon}
-use Rattle.writing.proofs.Texts.{canon-holds, room-form}
+use Rattle.held.proofs.Canon.{canon-holds}
+use Rattle.writing.proofs.Texts.{room-form}
 use Rattle.writing.proofs.write_form.Statement.{statement}
 use Rattle.writing.proofs.write_form.Tie as tie
 

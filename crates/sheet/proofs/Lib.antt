@@ -1,0 +1,6 @@
+pub mod Lines
+pub mod Prints
+pub mod Rows
+pub mod Sizes
+pub mod Turns
+pub mod Whole

@@ -1,0 +1,132 @@
+-- What the loops over a table's trees and over the pairs read in a turn.
+-- Assumes nothing.
+use mathlib.Core.Path.{_≡_, refl, ap, ap₂, _∙_}
+use mathlib.Core.List.{List, [], _∷_, _++_, List·Memᴰ, List·Memᴰ·head, List·Memᴰ·tail}
+use Prim.Native.Nat.{ℕ, zero, suc, _+_, _*_, _≤_, _<_}
+use native.Mathlib.Omega.{arith}
+use lib.ListN.{length, take, getD, length-append, List·getD-append}
+use Rattle.meaning.specs.Tree.{Tree as Topology, leaf, Good}
+use Rattle.meaning.specs.Listing.{Pair, counts, flat, treeOf}
+use Rattle.meaning.specs.Sheet.{treeLine, treeLines, pairLines}
+use Rattle.meaning.proofs.TableText.{AllGood}
+use Rattle.meaning.proofs.Moves.{numbered}
+use Rattle.meaning.proofs.Counts.{counts-length, counts-at, neighbours-le, flat-length}
+use Rattle.held.specs.Held.{Wrote}
+use Rattle.tables.specs.Trees.{heldAt}
+use Rattle.tables.specs.declared.Table.{Table}
+use Rattle.sheet.specs.Lines.{pairLine, twoFields, OnLine, TreeLineFits, TreesListed, TreeLinesFit, PairsListed, PairLinesFit}
+use Rattle.sheet.proofs.Rows.{rows, turn-room, turn-wrote, turns-wrote}
+
+-- ---- trees
+-- their lines are rows
+pub trees-rows : (k : ℕ) (ps : List Pair) (i : ℕ) (ts : List Topology) → treeLines k ps i ts ≡ rows (treeLine k ps) i ts
+unfolding treeLines
+trees-rows k ps i [] = refl
+trees-rows k ps i (t ∷ ts) = ap (λ (l : List ℕ). treeLine k ps i t ++ l) (trees-rows k ps (suc i) ts)
+
+pub good-one : (ts : List Topology) → AllGood ts → {t : Topology} → List·Memᴰ t ts → Good t
+good-one (t ∷ ts) G (List·Memᴰ·head e) = rw e (G .0)
+good-one (t ∷ ts) G (List·Memᴰ·tail m) = good-one ts (G .1) m
+
+-- the table's trees and their neighbour counts, at a position
+module _ {table : Table} {numbers : List ℕ} {ts : List Topology} {ps : List Pair} (L : TreesListed table numbers ts ps) where
+  pub numbers-long : length ts ≤ length numbers
+  numbers-long = omega (arith, ap length (L .counted .1), length-append (counts (length ts) ps) (L .counted .0), counts-length (length ts) ps)
+
+  module _ (i : ℕ) (h : i < table .len) where
+    inside : i < length ts
+    inside = omega (arith, L .holds .count)
+
+    pub on-line : OnLine i (getD numbers i 0) (heldAt table i) ps (treeOf ts i)
+    on-line = record {
+      good = good-one ts (L .good) (numbered ts (leaf 0) i inside);
+      held = L .holds .each i inside;
+      counted =
+          ap (λ (l : List ℕ). getD l i 0) (L .counted .1) ∙ List·getD-append (counts (length ts) ps) (L .counted .0) 0 i (omega (arith, inside, counts-length (length ts) ps))
+          ∙ counts-at (length ts) ps i inside;
+    }
+
+    few-linked : getD numbers i 0 < table .len
+    few-linked = omega (arith, on-line .counted, neighbours-le (L .listing) i inside, L .holds .count)
+
+-- the lines of the first i trees are written
+abbrev pub TreesSoFar : Table → List ℕ → List ℕ → List ℕ → ℕ → ℕ → ℕ → Type 0
+TreesSoFar table numbers out o₁ at next i = (ts : List Topology) (ps : List Pair) → TreesListed table numbers ts ps → Wrote (rows (treeLine (table .len) ps) 0 (take i ts)) out o₁ at next
+
+module _ {table : Table} {numbers out o₁ : List ℕ} {at next i : ℕ} (w : TreesSoFar table numbers out o₁ at next i) where
+  module _ (h : i < table .len) where
+    pub tree-fits : TreeLinesFit table numbers at (length out) → TreeLineFits (table .len) i (getD numbers i 0) (heldAt table i) next (length o₁)
+    tree-fits f =
+        let L = f .listed in
+        let room : at + length (rows (treeLine (table .len) (f .linked)) 0 (f .trees)) ≤ length out = rw (L .holds .count, ← trees-rows (length (f .trees)) (f .linked) 0 (f .trees)) (f .room) in
+        record {
+          linked = f .linked;
+          topology = treeOf (f .trees) i;
+          on = on-line L i h;
+          few = few-linked L i h;
+          room = turn-room (treeLine (table .len) (f .linked)) (leaf 0) (f .trees) i (inside L i h) (w (f .trees) (f .linked) L) room;
+        }
+
+    pub trees-more : {o₂ : List ℕ} {r : ℕ} → ((ps : List Pair) (t : Topology) → OnLine i (getD numbers i 0) (heldAt table i) ps t → Wrote (treeLine (table .len) ps i t) o₁ o₂ next r)
+        → TreesSoFar table numbers out o₂ at r (i + 1)
+    trees-more one ts ps L = turn-wrote (treeLine (table .len) ps) (leaf 0) ts i (inside L i h) (w ts ps L) (one ps (treeOf ts i) (on-line L i h))
+
+  pub trees-done : i ≤ table .len → table .len ≤ i → (ts : List Topology) (ps : List Pair) → TreesListed table numbers ts ps → Wrote (treeLines (length ts) ps 0 ts) out o₁ at next
+  trees-done h l ts ps L =
+      let all : i ≡ length ts = omega (arith, L .holds .count) in
+      rw (trees-rows (length ts) ps 0 ts, ← L .holds .count) (turns-wrote (treeLine (table .len) ps) ts all (w ts ps L))
+
+-- ---- pairs
+abbrev pub pairRow : ℕ → Pair → List ℕ
+pairRow _ p = pairLine (p .0) (p .1)
+
+-- their lines are rows
+pub pairs-rows : (i : ℕ) (ps : List Pair) → pairLines ps ≡ rows pairRow i ps
+unfolding pairLines pairLine twoFields
+pairs-rows i [] = refl
+pairs-rows i (p ∷ ps) = ap (λ (l : List ℕ). pairLine (p .0) (p .1) ++ l) (pairs-rows (suc i) ps)
+
+abbrev pairAt : List Pair → ℕ → Pair
+pairAt ps i = getD ps i (0, 0)
+
+flat-at : (ps : List Pair) (i : ℕ) → i < length ps → (getD (flat ps) (2 * i) 0 ≡ pairAt ps i .0) × (getD (flat ps) (2 * i + 1) 0 ≡ pairAt ps i .1)
+unfolding flat
+flat-at [] i h = absurd (omega arith)
+flat-at (p ∷ ps) zero h = (refl, refl)
+flat-at (p ∷ ps) (suc i) h =
+    let even : 2 * suc i ≡ suc (suc (2 * i)) = omega arith in
+    let odd : 2 * suc i + 1 ≡ suc (suc (2 * i + 1)) = omega arith in
+    let r = flat-at ps i (omega arith) in
+    (rw even (r .0), rw odd (r .1))
+
+module _ {numbers : List ℕ} {m : ℕ} {ps : List Pair} (L : PairsListed numbers m ps) where
+  pub pairs-long : 2 * m ≤ length numbers
+  pairs-long = omega (arith, ap length (L .listed .1), length-append (flat ps) (L .listed .0), flat-length ps, L .many)
+
+  module _ (i : ℕ) (h : i < m) where
+    number-at : (j : ℕ) → j < 2 * m → getD numbers j 0 ≡ getD (flat ps) j 0
+    number-at j l = ap (λ (l : List ℕ). getD l j 0) (L .listed .1) ∙ List·getD-append (flat ps) (L .listed .0) 0 j (omega (arith, flat-length ps, L .many))
+
+    pair-is : pairLine (getD numbers (2 * i) 0) (getD numbers (2 * i + 1) 0) ≡ pairRow i (pairAt ps i)
+    pair-is =
+        let r = flat-at ps i (omega (arith, L .many)) in
+        ap₂ pairLine (number-at (2 * i) (omega arith) ∙ r .0) (number-at (2 * i + 1) (omega arith) ∙ r .1)
+
+-- the lines of the first i pairs are written
+abbrev pub PairsSoFar : List ℕ → ℕ → List ℕ → List ℕ → ℕ → ℕ → ℕ → Type 0
+PairsSoFar numbers m out o₁ at next i = (ps : List Pair) → PairsListed numbers m ps → Wrote (rows pairRow 0 (take i ps)) out o₁ at next
+
+module _ {numbers out o₁ : List ℕ} {m at next i : ℕ} (w : PairsSoFar numbers m out o₁ at next i) where
+  module _ (h : i < m) where
+    pub pair-fits : PairLinesFit numbers m at (length out) → next + length (pairLine (getD numbers (2 * i) 0) (getD numbers (2 * i + 1) 0)) ≤ length o₁
+    pair-fits f =
+        let L = f .listed in
+        rw (pair-is L i h) (turn-room pairRow (0, 0) (f .linked) i (omega (arith, L .many)) (w (f .linked) L) (rw (← pairs-rows 0 (f .linked)) (f .room)))
+
+    pub pairs-more : {o₂ : List ℕ} {r : ℕ} → Wrote (pairLine (getD numbers (2 * i) 0) (getD numbers (2 * i + 1) 0)) o₁ o₂ next r → PairsSoFar numbers m out o₂ at r (i + 1)
+    pairs-more one ps L = turn-wrote pairRow (0, 0) ps i (omega (arith, L .many)) (w ps L) (rw (pair-is L i h) at one)
+
+  pub pairs-done : i ≤ m → m ≤ i → (ps : List Pair) → PairsListed numbers m ps → Wrote (pairLines ps) out o₁ at next
+  pairs-done h l ps L =
+      let all : i ≡ length ps = omega (arith, L .many) in
+      rw (pairs-rows 0 ps) (turns-wrote pairRow ps all (w ps L))
