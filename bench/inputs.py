@@ -1,0 +1,216 @@
+#!/usr/bin/env python3
+"""Benchmark inputs for the pair lister.
+
+    inputs.py OUTDIR
+
+writes one file for each input into OUTDIR.  Every file is a table that the
+pair lister accepts: one tree to a line, children in random order.  The seeds
+are fixed, so the files are the same each time.
+
+Full tables, 160 trees of 64 leaves:
+
+    unrelated    random topologies
+    chain        each tree one random move from the one before
+    near_copies  a few topologies, each many times with children swapped,
+                 some of them one move apart
+    combs        every fork has a leaf as a child; each tree is one, two or
+                 three moves of a leaf from the one before
+
+Growth, for `unrelated` and `chain`: the first 20, 40 and 80 trees of the full
+table, and 160 trees of 8, 16 and 32 leaves.  The full tables are the last step
+of both.
+
+Trees are nested tuples: a leaf is its label, a fork is (first, second).  A
+node is named by its path from the root, a tuple of 0 and 1.
+"""
+
+import os
+import random
+import sys
+
+MOST_BYTES = 65535
+TREES = 160
+LEAVES = 64
+FEWER_TREES = (20, 40, 80)
+FEWER_LEAVES = (8, 16, 32)
+
+NEAR_COPIES_BASES = 2
+NEAR_COPIES_NEIGHBOURS = 3
+
+
+# Trees
+
+
+def paths(tree):
+    """All nodes' paths, the root's empty one first."""
+    if not isinstance(tree, tuple):
+        return [()]
+    return [()] + [(side,) + path for side in (0, 1) for path in paths(tree[side])]
+
+
+def subtree(tree, path):
+    """The subtree at a path."""
+    for side in path:
+        tree = tree[side]
+    return tree
+
+
+def replaced(tree, path, new):
+    """The tree with the subtree at a path replaced by a new one."""
+    if not path:
+        return new
+    grown = replaced(tree[path[0]], path[1:], new)
+    return (grown, tree[1]) if path[0] == 0 else (tree[0], grown)
+
+
+def topology(tree):
+    """A value that is equal exactly for equal topologies."""
+    if not isinstance(tree, tuple):
+        return tree
+    return frozenset((topology(tree[0]), topology(tree[1])))
+
+
+def random_tree(rng, leaves):
+    """Each further leaf hangs on a random edge or above the root, which makes
+    all topologies equally likely."""
+    tree = 1
+    for label in range(2, leaves + 1):
+        path = rng.choice(paths(tree))
+        tree = replaced(tree, path, (subtree(tree, path), label))
+    return tree
+
+
+def moved(rng, tree):
+    """The result of one random prune and regraft that changes the topology."""
+    while True:
+        *parent, side = rng.choice(paths(tree)[1:])
+        fork = subtree(tree, parent)
+        pruned, sibling = fork[side], fork[1 - side]
+        remainder = replaced(tree, tuple(parent), sibling)
+        target = rng.choice(paths(remainder))
+        result = replaced(remainder, target, (subtree(remainder, target), pruned))
+        if topology(result) != topology(tree):
+            return result
+
+
+def comb(labels):
+    """The comb with these labels from the root downwards."""
+    tree = labels[-1]
+    for label in reversed(labels[:-1]):
+        tree = (label, tree)
+    return tree
+
+
+def leaf_moved(rng, labels):
+    """A comb's labels after one leaf moved, the topology changed by it."""
+    while True:
+        result = list(labels)
+        label = result.pop(rng.randrange(len(result)))
+        result.insert(rng.randrange(len(result) + 1), label)
+        if topology(comb(result)) != topology(comb(labels)):
+            return result
+
+
+def swapped(rng, tree):
+    """The same topology with children swapped at random forks."""
+    if not isinstance(tree, tuple):
+        return tree
+    first, second = swapped(rng, tree[0]), swapped(rng, tree[1])
+    return (first, second) if rng.random() < 0.5 else (second, first)
+
+
+# Tables
+
+
+def unrelated(rng, leaves):
+    """Random topologies."""
+    return [random_tree(rng, leaves) for _ in range(TREES)]
+
+
+def chain(rng, leaves):
+    """Each tree is one random move from the one before."""
+    trees = [random_tree(rng, leaves)]
+    while len(trees) < TREES:
+        trees.append(moved(rng, trees[-1]))
+    return trees
+
+
+def near_copies(rng, leaves):
+    """Random trees and some neighbours of each, all of them equally often and
+    in random order."""
+    few = []
+    for _ in range(NEAR_COPIES_BASES):
+        base = random_tree(rng, leaves)
+        few.append(base)
+        few.extend(moved(rng, base) for _ in range(NEAR_COPIES_NEIGHBOURS))
+    trees = [few[i % len(few)] for i in range(TREES)]
+    rng.shuffle(trees)
+    return trees
+
+
+def combs(rng, leaves):
+    """Each comb is one, two or three moves of a leaf from the one before."""
+    labels = rng.sample(range(1, leaves + 1), leaves)
+    trees = [comb(labels)]
+    while len(trees) < TREES:
+        for _ in range(rng.choice((1, 1, 2, 3))):
+            labels = leaf_moved(rng, labels)
+        trees.append(comb(labels))
+    return trees
+
+
+# Texts
+
+
+def node_text(tree):
+    """The text of a node as its children stand."""
+    if not isinstance(tree, tuple):
+        return "%d" % tree
+    return "(%s,%s)" % (node_text(tree[0]), node_text(tree[1]))
+
+
+def lines_of(make, leaves):
+    """The lines of a table of 160 trees; the seed is the kind and the size."""
+    rng = random.Random("%s %d" % (make.__name__, leaves))
+    trees = make(rng, leaves)
+    return [node_text(swapped(rng, tree)) + ";\n" for tree in trees]
+
+
+def inputs():
+    """Yield (name, text) for each input, growing ones from small to large."""
+    full = {make: lines_of(make, LEAVES) for make in (unrelated, chain, near_copies, combs)}
+    for make, lines in full.items():
+        yield make.__name__, "".join(lines)
+    for make in (unrelated, chain):
+        for trees in FEWER_TREES:
+            yield "%s_%dx%d" % (make.__name__, trees, LEAVES), "".join(full[make][:trees])
+    for make in (unrelated, chain):
+        for leaves in FEWER_LEAVES:
+            yield "%s_%dx%d" % (make.__name__, TREES, leaves), "".join(lines_of(make, leaves))
+
+
+def write_inputs(directory):
+    """Write all inputs.  Gives (name, path) for each, in order."""
+    os.makedirs(directory, exist_ok=True)
+    written = []
+    for name, text in inputs():
+        if len(text) > MOST_BYTES:
+            raise ValueError("%s is too long: %d bytes" % (name, len(text)))
+        path = os.path.join(directory, name + ".txt")
+        with open(path, "wb") as file:
+            file.write(text.encode("ascii"))
+        written.append((name, path))
+    return written
+
+
+def main(arguments):
+    """Write the files; gives the exit status."""
+    if len(arguments) != 1:
+        print("usage: inputs.py OUTDIR", file=sys.stderr)
+        return 2
+    write_inputs(arguments[0])
+    return 0
+
+
+if __name__ == "__main__":
+    sys.exit(main(sys.argv[1:]))

@@ -1,0 +1,244 @@
+//! Which rooted binary trees are one prune and regraft apart: a plain
+//! implementation of document 01's calls over ordinary Rust types.
+//!
+//! The method is document 001's: every forest of every tree is written as a
+//! canonical string, the strings are the keys of a hash map, and two trees of
+//! different topology that meet under one key are a pair.
+//!
+//! Results are returned, not written into lent memory, so refusal 7 (a lent
+//! slice too short) does not arise.
+
+mod reader;
+mod tree;
+
+#[cfg(test)]
+mod tests;
+
+use std::collections::{HashMap, HashSet};
+use std::io::Write;
+
+use reader::Reader;
+use tree::Tree;
+
+/// A text has at most this many bytes.
+pub const MOST_BYTES: usize = 65_535;
+/// A table has at most this many trees.
+pub const MOST_TREES: usize = 160;
+/// At most this many brackets are open at once.
+pub const MOST_OPEN: usize = 63;
+/// Labels are 1 to this.
+pub const LARGEST_LABEL: u8 = 64;
+
+/// A byte that cannot stand there, or the text ends too soon.
+pub const BAD_BYTE: u8 = 1;
+/// A label with a leading zero or out of range.
+pub const BAD_LABEL: u8 = 2;
+/// A label already in this tree.
+pub const REPEATED_LABEL: u8 = 3;
+/// A bracket too many open.
+pub const TOO_DEEP: u8 = 4;
+/// Labels differ from the first tree's.
+pub const OTHER_LABELS: u8 = 5;
+/// Something follows the last tree a table can have.
+pub const TOO_MANY_TREES: u8 = 6;
+/// The text is too long.
+pub const TEXT_TOO_LONG: u8 = 8;
+/// The tree has no cut of this number.
+pub const NO_SUCH_CUT: u8 = 9;
+
+/// Why a call refuses: the number, which text (0, or 1 for the pair call's
+/// second) and the place.
+#[derive(Clone, Copy, Debug, PartialEq, Eq)]
+pub struct Refusal {
+    pub number: u8,
+    pub text: u8,
+    pub place: usize,
+}
+
+/// Pairs (i, j) with i < j in order of i, then j, and the neighbour count of
+/// each tree.
+pub type Graph = (Vec<(u16, u16)>, Vec<u16>);
+
+/// The canonical text of a text with exactly one tree.
+pub fn form(text: &[u8]) -> Result<Vec<u8>, Refusal> {
+    refuse_long_text(text, 0)?;
+    let (tree, _) = read_one(text, 0)?;
+    Ok(tree.canonical_text().to_vec())
+}
+
+/// The forest text of cut `c`.
+pub fn cut(text: &[u8], c: u64) -> Result<Vec<u8>, Refusal> {
+    refuse_long_text(text, 0)?;
+    let (tree, _) = read_one(text, 0)?;
+    if c >= tree.number_of_cuts() as u64 {
+        return Err(Refusal {
+            number: NO_SUCH_CUT,
+            text: 0,
+            place: 0,
+        });
+    }
+    Ok(tree.forest_text(c as usize))
+}
+
+/// Whether two trees are one move apart; equal topologies are not.
+pub fn pair(text0: &[u8], text1: &[u8]) -> Result<bool, Refusal> {
+    refuse_long_text(text0, 0)?;
+    refuse_long_text(text1, 1)?;
+    let (first, _) = read_one(text0, 0)?;
+    let (second, semicolon) = read_one(text1, 1)?;
+    if first.labels() != second.labels() {
+        return Err(Refusal {
+            number: OTHER_LABELS,
+            text: 1,
+            place: semicolon,
+        });
+    }
+    if first.canonical_text() == second.canonical_text() {
+        return Ok(false);
+    }
+    let forests: HashSet<Vec<u8>> = first.forest_texts().collect();
+    let shared = second
+        .forest_texts()
+        .any(|forest| forests.contains(&forest));
+    Ok(shared)
+}
+
+/// The canonical texts of a table one after another, and the end of each.
+pub fn table(text: &[u8]) -> Result<(Vec<u8>, Vec<u32>), Refusal> {
+    let mut written = Vec::new();
+    let mut ends = Vec::new();
+    for tree in read_table(text)? {
+        written.extend_from_slice(tree.canonical_text());
+        ends.push(written.len() as u32);
+    }
+    Ok((written, ends))
+}
+
+/// The listed pairs of a table and the neighbour count of each tree.
+pub fn graph(text: &[u8]) -> Result<Graph, Refusal> {
+    Ok(graph_of(&read_table(text)?))
+}
+
+/// What the pair lister prints for this standard input.
+pub fn sheet(text: &[u8]) -> Vec<u8> {
+    let mut out = Vec::new();
+    write_sheet(text, &mut out).expect("writing to a vector does not fail");
+    out
+}
+
+fn write_sheet(text: &[u8], out: &mut Vec<u8>) -> std::io::Result<()> {
+    let trees = match read_table(text) {
+        Ok(trees) => trees,
+        Err(refusal) => {
+            return writeln!(out, "refused {} at {}", refusal.number, refusal.place);
+        }
+    };
+    let (pairs, counts) = graph_of(&trees);
+    writeln!(out, "trees {} pairs {}", trees.len(), pairs.len())?;
+    for (i, (tree, &neighbours)) in trees.iter().zip(&counts).enumerate() {
+        let unlinked = trees.len() - 1 - usize::from(neighbours);
+        write!(out, "tree {i} neighbours {neighbours} unlinked {unlinked} ")?;
+        out.extend_from_slice(tree.canonical_text());
+        out.push(b'\n');
+    }
+    for (i, j) in &pairs {
+        writeln!(out, "pair {i} {j}")?;
+    }
+    Ok(())
+}
+
+fn refuse_long_text(text: &[u8], which: u8) -> Result<(), Refusal> {
+    if text.len() > MOST_BYTES {
+        return Err(Refusal {
+            number: TEXT_TOO_LONG,
+            text: which,
+            place: 0,
+        });
+    }
+    Ok(())
+}
+
+/// Reads a text of exactly one tree. Gives it and the place of its `;`.
+fn read_one(text: &[u8], which: u8) -> Result<(Tree, usize), Refusal> {
+    let mut reader = Reader::new(text, which);
+    let (tree, semicolon) = reader.tree()?;
+    match reader.next_token_byte() {
+        Some(_) => Err(reader.refusal(BAD_BYTE)),
+        None => Ok((tree, semicolon)),
+    }
+}
+
+fn read_table(text: &[u8]) -> Result<Vec<Tree>, Refusal> {
+    refuse_long_text(text, 0)?;
+    let mut reader = Reader::new(text, 0);
+    let mut trees: Vec<Tree> = Vec::new();
+    while reader.next_token_byte().is_some() {
+        if trees.len() == MOST_TREES {
+            return Err(reader.refusal(TOO_MANY_TREES));
+        }
+        let (tree, semicolon) = reader.tree()?;
+        if trees
+            .first()
+            .is_some_and(|first| first.labels() != tree.labels())
+        {
+            return Err(Refusal {
+                number: OTHER_LABELS,
+                text: 0,
+                place: semicolon,
+            });
+        }
+        trees.push(tree);
+    }
+    Ok(trees)
+}
+
+fn graph_of(trees: &[Tree]) -> Graph {
+    // As in document 001 a topology is inserted once, however often it occurs.
+    let mut number_of: HashMap<&[u8], usize> = HashMap::new();
+    let mut distinct: Vec<&Tree> = Vec::new();
+    let mut numbers: Vec<usize> = Vec::with_capacity(trees.len());
+    for tree in trees {
+        let number = *number_of
+            .entry(tree.canonical_text())
+            .or_insert(distinct.len());
+        if number == distinct.len() {
+            distinct.push(tree);
+        }
+        numbers.push(number);
+    }
+
+    let adjacent = adjacency(&distinct);
+    let mut pairs = Vec::new();
+    let mut counts = vec![0; trees.len()];
+    for i in 0..trees.len() {
+        for j in i + 1..trees.len() {
+            if adjacent[numbers[i]][numbers[j]] {
+                pairs.push((i as u16, j as u16));
+                counts[i] += 1;
+                counts[j] += 1;
+            }
+        }
+    }
+    (pairs, counts)
+}
+
+/// For trees of different topologies: which of them share a forest.
+///
+/// Trees that share several forests meet several times; in the matrix that is
+/// still one entry.
+fn adjacency(trees: &[&Tree]) -> Vec<Vec<bool>> {
+    let forests = trees.iter().map(|tree| tree.number_of_cuts()).sum();
+    let mut holders: HashMap<Vec<u8>, Vec<usize>> = HashMap::with_capacity(forests);
+    let mut adjacent = vec![vec![false; trees.len()]; trees.len()];
+    for (i, tree) in trees.iter().enumerate() {
+        for forest in tree.forest_texts() {
+            let sharing = holders.entry(forest).or_default();
+            for &j in sharing.iter() {
+                adjacent[i][j] = true;
+                adjacent[j][i] = true;
+            }
+            sharing.push(i);
+        }
+    }
+    adjacent
+}

@@ -1,0 +1,187 @@
+//! The samples of document 01.
+
+use super::*;
+
+fn refused<T>(number: u8, place: usize) -> Result<T, Refusal> {
+    Err(Refusal {
+        number,
+        text: 0,
+        place,
+    })
+}
+
+fn text(s: &str) -> Result<Vec<u8>, Refusal> {
+    Ok(s.as_bytes().to_vec())
+}
+
+/// `(((1,2),3), ...` with the given number of leaves.
+fn left_comb(leaves: usize) -> String {
+    let mut tree = String::from("1");
+    for label in 2..=leaves {
+        tree = format!("({tree},{label})");
+    }
+    tree + ";"
+}
+
+#[test]
+fn forms() {
+    assert_eq!(form(b"(3,(2,1));"), text("((1,2),3);"));
+    assert_eq!(form(b"(10,2);"), text("(2,10);"));
+    assert_eq!(form(b" 7 ;"), text("7;"));
+    assert_eq!(form(b"(1,64);"), text("(1,64);"));
+}
+
+#[test]
+fn refused_forms() {
+    assert_eq!(form(b"(1,2,3);"), refused(1, 4));
+    assert_eq!(form(b"(1,2)"), refused(1, 5));
+    assert_eq!(form(b"(1,2);x"), refused(1, 6));
+    assert_eq!(form(b"(1,1);"), refused(3, 3));
+    assert_eq!(form(b"(1,65);"), refused(2, 3));
+}
+
+#[test]
+fn empty_text() {
+    assert_eq!(form(b""), refused(1, 0));
+    assert_eq!(table(b""), Ok((vec![], vec![])));
+    assert_eq!(graph(b""), Ok((vec![], vec![])));
+    assert_eq!(sheet(b""), b"trees 0 pairs 0\n");
+}
+
+#[test]
+fn blanks_only() {
+    assert_eq!(form(b" \t\r\n"), refused(1, 4));
+    assert_eq!(table(b" \t\r\n"), Ok((vec![], vec![])));
+}
+
+#[test]
+fn labels_at_the_end_of_the_text() {
+    assert_eq!(form(b"(1,65"), refused(2, 3));
+    assert_eq!(form(b"(1,1"), refused(3, 3));
+    assert_eq!(form(b"(1,6"), refused(1, 4));
+}
+
+#[test]
+fn tables() {
+    assert_eq!(table(b"(1,2);(1,3);"), refused(5, 11));
+    assert_eq!(table(b"(3,(2,1));\n(3,(10,2)) ;"), refused(5, 22));
+    assert_eq!(
+        table(b"(10,(2,1));\n(2,(10,1));"),
+        Ok((b"((1,2),10);((1,10),2);".to_vec(), vec![11, 22]))
+    );
+}
+
+#[test]
+fn cuts() {
+    let tree = b"((1,2),(3,4));";
+    let forests = [
+        "(3,4) (1,2);",
+        "(2,(3,4)) 1;",
+        "(1,(3,4)) 2;",
+        "(1,2) (3,4);",
+        "((1,2),4) 3;",
+        "((1,2),3) 4;",
+    ];
+    for (c, forest) in forests.iter().enumerate() {
+        assert_eq!(cut(tree, c as u64), text(forest));
+    }
+    assert_eq!(cut(tree, 6), refused(9, 0));
+    assert_eq!(cut(tree, u64::MAX), refused(9, 0));
+    assert_eq!(cut(b" 7 ;", 0), refused(9, 0));
+    assert_eq!(cut(b"(1,2);x", 9), refused(1, 6));
+}
+
+#[test]
+fn pairs() {
+    assert_eq!(pair(b"(((1,2),3),4);", b"((1,2),(3,4));"), Ok(true));
+    assert_eq!(pair(b"(((1,2),3),4);", b"(((3,4),1),2);"), Ok(false));
+    assert_eq!(
+        pair(b"((((4,5),1),2),3);", b"((((1,2),3),4),5);"),
+        Ok(false)
+    );
+    assert_eq!(pair(b"((1,2),3);", b"(3,(2,1));"), Ok(false));
+    assert_eq!(pair(b"1;", b"1;"), Ok(false));
+}
+
+#[test]
+fn three_shared_forests_and_one_pair() {
+    let (one, other) = (b"(((1,2),3),4);", b"((1,2),(3,4));");
+    let forests =
+        |tree: &[u8]| -> HashSet<Vec<u8>> { (0..6).map(|c| cut(tree, c).unwrap()).collect() };
+    assert_eq!(forests(one).intersection(&forests(other)).count(), 3);
+    assert_eq!(
+        graph(b"(((1,2),3),4);((1,2),(3,4));"),
+        Ok((vec![(0, 1)], vec![1, 1]))
+    );
+}
+
+#[test]
+fn order_of_the_pair_calls_refusals() {
+    let second = |number, place| {
+        Err(Refusal {
+            number,
+            text: 1,
+            place,
+        })
+    };
+    let long = vec![b' '; 65_536];
+    assert_eq!(pair(&long, &long), refused(8, 0));
+    assert_eq!(pair(b"x", &long), second(8, 0));
+    assert_eq!(pair(b"1;x", b"x"), refused(1, 2));
+    assert_eq!(pair(b"1;", b"2;x"), second(1, 2));
+    assert_eq!(pair(b"1;", b" 2 ; "), second(5, 3));
+}
+
+#[test]
+fn depth() {
+    let deepest = left_comb(64);
+    assert!(deepest.starts_with(&"(".repeat(63)));
+    assert_eq!(form(deepest.as_bytes()), text(&deepest));
+    assert_eq!(form(format!("({deepest}").as_bytes()), refused(4, 63));
+}
+
+#[test]
+fn longest_texts() {
+    let longest = left_comb(64);
+    assert_eq!(longest.len(), 309);
+    for c in 0..126 {
+        assert_eq!(cut(longest.as_bytes(), c).unwrap().len(), 307);
+    }
+    assert_eq!(cut(longest.as_bytes(), 126), refused(9, 0));
+}
+
+#[test]
+fn number_of_trees() {
+    let full = "(1,2);".repeat(160);
+    assert_eq!(table(full.as_bytes()).unwrap().1.len(), 160);
+    assert_eq!(table(format!("{full} \n").as_bytes()).unwrap().1.len(), 160);
+    assert_eq!(table(format!("{full}(1,2);").as_bytes()), refused(6, 960));
+    assert_eq!(table(format!("{full} x").as_bytes()), refused(6, 961));
+    assert_eq!(graph(format!("{full}(1,2);").as_bytes()), refused(6, 960));
+}
+
+#[test]
+fn length_of_the_text() {
+    assert_eq!(table(&vec![b' '; 65_535]), Ok((vec![], vec![])));
+    assert_eq!(table(&vec![b'x'; 65_536]), refused(8, 0));
+    assert_eq!(sheet(&vec![b'x'; 65_536]), b"refused 8 at 0\n");
+}
+
+#[test]
+fn sample_sheet() {
+    let input = b"((2,1),3);\n(3,(2,1));\n(1,(2,3));\n((1,3),2);\n";
+    let expected = "\
+trees 4 pairs 5
+tree 0 neighbours 2 unlinked 1 ((1,2),3);
+tree 1 neighbours 2 unlinked 1 ((1,2),3);
+tree 2 neighbours 3 unlinked 0 (1,(2,3));
+tree 3 neighbours 3 unlinked 0 ((1,3),2);
+pair 0 2
+pair 0 3
+pair 1 2
+pair 1 3
+pair 2 3
+";
+    assert_eq!(String::from_utf8(sheet(input)).unwrap(), expected);
+    assert_eq!(sheet(b"(1,2,3);"), b"refused 1 at 4\n");
+}

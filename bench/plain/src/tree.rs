@@ -1,0 +1,160 @@
+//! Trees, their canonical texts and their forests.
+
+use std::ops::Range;
+
+use crate::MOST_OPEN;
+
+/// A node as it is read, with its children already in canonical order.
+pub struct Subtree {
+    /// Smallest label at and below the node; of a leaf, its label.
+    least: u8,
+    children: Option<Box<[Subtree; 2]>>,
+}
+
+impl Subtree {
+    pub fn leaf(label: u8) -> Subtree {
+        Subtree {
+            least: label,
+            children: None,
+        }
+    }
+
+    pub fn fork(one: Subtree, other: Subtree) -> Subtree {
+        let children = if one.least < other.least {
+            [one, other]
+        } else {
+            [other, one]
+        };
+        Subtree {
+            least: children[0].least,
+            children: Some(Box::new(children)),
+        }
+    }
+}
+
+/// A rooted binary tree with its canonical text.
+pub struct Tree {
+    text: Vec<u8>,
+    /// In the order in which the nodes begin in the text. The root is node 0,
+    /// so cut `c` is at node `c + 1`.
+    nodes: Vec<Node>,
+    labels: u64,
+}
+
+struct Node {
+    least: u8,
+    /// Where the node stands in the canonical text.
+    text: Range<usize>,
+    /// Parent and sibling; the root has none.
+    above: Option<(usize, usize)>,
+}
+
+impl Tree {
+    /// The tree with this root and this label set, bit `label - 1` for each
+    /// label.
+    pub fn new(root: &Subtree, labels: u64) -> Tree {
+        let mut tree = Tree {
+            text: Vec::new(),
+            nodes: Vec::new(),
+            labels,
+        };
+        tree.add(root);
+        tree.text.push(b';');
+        tree
+    }
+
+    /// Writes a subtree at the end of the text and gives its root's index.
+    fn add(&mut self, subtree: &Subtree) -> usize {
+        let index = self.nodes.len();
+        let start = self.text.len();
+        self.nodes.push(Node {
+            least: subtree.least,
+            text: start..start,
+            above: None,
+        });
+        match &subtree.children {
+            None => self.add_label(subtree.least),
+            Some(children) => {
+                self.text.push(b'(');
+                let first = self.add(&children[0]);
+                self.text.push(b',');
+                let second = self.add(&children[1]);
+                self.text.push(b')');
+                self.nodes[first].above = Some((index, second));
+                self.nodes[second].above = Some((index, first));
+            }
+        }
+        self.nodes[index].text.end = self.text.len();
+        index
+    }
+
+    fn add_label(&mut self, label: u8) {
+        if label >= 10 {
+            self.text.push(b'0' + label / 10);
+        }
+        self.text.push(b'0' + label % 10);
+    }
+
+    pub fn labels(&self) -> u64 {
+        self.labels
+    }
+
+    /// The canonical text, `;` included.
+    pub fn canonical_text(&self) -> &[u8] {
+        &self.text
+    }
+
+    pub fn number_of_cuts(&self) -> usize {
+        self.nodes.len() - 1
+    }
+
+    /// The forest texts of all cuts in order.
+    pub fn forest_texts(&self) -> impl Iterator<Item = Vec<u8>> + '_ {
+        (0..self.number_of_cuts()).map(|cut| self.forest_text(cut))
+    }
+
+    /// The forest text of a cut, which must be below the number of cuts.
+    ///
+    /// What the cut leaves is the sibling of the pruned node, joined with the
+    /// sibling of the node above, and so on up to the root. Each sibling is a
+    /// whole subtree and keeps its canonical text. The order in the new forks
+    /// can differ from the old one, because the pruned labels no longer count.
+    pub fn forest_text(&self, cut: usize) -> Vec<u8> {
+        let pruned = cut + 1;
+        let (mut node, nearest) = self.nodes[pruned].above.expect("a cut is not at the root");
+        let mut least = self.nodes[nearest].least;
+        // The further siblings, and whether each comes first in its fork.
+        let mut siblings = Vec::with_capacity(MOST_OPEN);
+        while let Some((parent, sibling)) = self.nodes[node].above {
+            siblings.push((sibling, self.nodes[sibling].least < least));
+            least = least.min(self.nodes[sibling].least);
+            node = parent;
+        }
+
+        // A forest text has a fork less than the tree's text, and a space.
+        let mut out = Vec::with_capacity(self.text.len());
+        for &(sibling, comes_first) in siblings.iter().rev() {
+            out.push(b'(');
+            if comes_first {
+                out.extend_from_slice(self.node_text(sibling));
+                out.push(b',');
+            }
+        }
+        out.extend_from_slice(self.node_text(nearest));
+        for &(sibling, comes_first) in &siblings {
+            if !comes_first {
+                out.push(b',');
+                out.extend_from_slice(self.node_text(sibling));
+            }
+            out.push(b')');
+        }
+        out.push(b' ');
+        out.extend_from_slice(self.node_text(pruned));
+        out.push(b';');
+        out
+    }
+
+    fn node_text(&self, node: usize) -> &[u8] {
+        &self.text[self.nodes[node].text.clone()]
+    }
+}

@@ -1,0 +1,195 @@
+#!/usr/bin/env python3
+"""Compare the speed of a pair lister with the plain program's.
+
+    run.py [OUR_PROGRAM] [--repeat N]
+
+OUR_PROGRAM is the path of an executable that reads a table of trees from
+standard input and prints the sheet; if it is left out, the pair lister is built
+for this machine by tools/native.sh.  The plain program is built first.  Both
+are run on each input of inputs.py.  The first run of each is for comparing the
+outputs; if they differ, or a table is refused, or a program is ended by a
+signal, the exit status is 1.
+
+The time of an input is the wall time of the whole process, the best of N runs,
+less the same for an empty input, which is what starting the process costs.
+"""
+
+import argparse
+import os
+import platform
+import re
+import subprocess
+import sys
+import tempfile
+import time
+
+import inputs
+
+HERE = os.path.dirname(os.path.abspath(__file__))
+PLAIN_PACKAGE = os.path.join(HERE, "plain")
+NATIVE = os.path.join(os.path.dirname(HERE), "tools", "native.sh")
+DEFAULT_REPEAT = 5
+# Starting a process is short and goes into every row, so it is measured often.
+EMPTY_REPEAT_FACTOR = 20
+# Below this a time is mostly the noise of starting the process.
+SHORTEST_FOR_RATIO_MS = 0.05
+
+ROW = "%-17s %6s %7s %6s %10s %10s %11s"
+
+
+class Failed(Exception):
+    """Ends the run with status 1."""
+
+
+def build_plain():
+    """Build the plain program and give its path."""
+    target = os.path.join(PLAIN_PACKAGE, "target")
+    command = ["cargo", "build", "--release", "--offline", "--quiet", "--target-dir", target]
+    try:
+        subprocess.run(command, cwd=PLAIN_PACKAGE, check=True)
+    except (OSError, subprocess.CalledProcessError) as error:
+        raise Failed("the plain program cannot be built: %s" % error) from error
+    name = "plain.exe" if os.name == "nt" else "plain"
+    return os.path.join(target, "release", name)
+
+
+def build_ours(directory):
+    """Build the pair lister for this machine and give its path."""
+    program = os.path.join(directory, "pair_lister")
+    try:
+        subprocess.run([NATIVE, "pair_lister", program], check=True)
+    except (OSError, subprocess.CalledProcessError) as error:
+        raise Failed("the pair lister cannot be built: %s" % error) from error
+    machine = platform.machine()
+    how = "as rt links it" if machine == "x86_64" else "from the LLVM module that rt compiles for x86-64"
+    print("pair lister: built for %s, %s" % (machine, how))
+    return program
+
+
+def output_of(program, path):
+    """What the program prints for this input."""
+    with open(path, "rb") as text:
+        done = subprocess.run([program], stdin=text, stdout=subprocess.PIPE, check=False)
+    if done.returncode < 0:
+        raise Failed("%s: ended by signal %d on %s"
+                     % (program, -done.returncode, os.path.basename(path)))
+    return done.stdout
+
+
+def milliseconds(program, path):
+    """The wall time of one run, output discarded."""
+    with open(path, "rb") as text:
+        start = time.perf_counter_ns()
+        subprocess.run([program], stdin=text, stdout=subprocess.DEVNULL, check=False)
+        return (time.perf_counter_ns() - start) / 1e6
+
+
+def best_times(programs, path, repeat):
+    """The best time of each program.  They take turns, so that a change in the
+    machine's speed meets both."""
+    best = [float("inf")] * len(programs)
+    for _ in range(repeat):
+        for i, program in enumerate(programs):
+            best[i] = min(best[i], milliseconds(program, path))
+    return best
+
+
+def compared_output(programs, path):
+    """The output of the programs, which must be the same."""
+    ours, plain = (output_of(program, path) for program in programs)
+    if ours != plain:
+        raise Failed("the outputs differ on %s" % os.path.basename(path))
+    return ours
+
+
+def size_of(path, output):
+    """The numbers of trees, leaves and pairs."""
+    first_line = re.match(rb"trees (\d+) pairs (\d+)\n", output)
+    if not first_line:
+        raise Failed("%s is not accepted: %r" % (os.path.basename(path), output[:80]))
+    with open(path, "rb") as file:
+        first_tree = file.read().partition(b";")[0]
+    leaves = len(re.findall(rb"\d+", first_tree))
+    return int(first_line[1]), leaves, int(first_line[2])
+
+
+def ratio_text(ours, plain):
+    """The ratio for the table; a dash where both times are too short."""
+    if plain < SHORTEST_FOR_RATIO_MS:
+        return "-"
+    return "%.2f" % (ours / plain)
+
+
+def cpu_model():
+    """The name of the processor as far as the system tells it."""
+    try:
+        with open("/proc/cpuinfo", encoding="utf-8", errors="replace") as file:
+            for line in file:
+                if line.startswith("model name"):
+                    return line.partition(":")[2].strip()
+    except OSError:
+        pass
+    return platform.processor() or platform.machine() or "unknown"
+
+
+def rustc_version():
+    """What `rustc --version` prints."""
+    try:
+        done = subprocess.run(["rustc", "--version"], stdout=subprocess.PIPE, check=True)
+    except (OSError, subprocess.CalledProcessError):
+        return "rustc: not found"
+    return done.stdout.decode().strip()
+
+
+def run(ours, repeat, directory):
+    """Build, measure and print the table."""
+    programs = (ours or build_ours(directory), build_plain())
+    print("CPU: %s, %d cores" % (cpu_model(), os.cpu_count() or 0))
+    print(rustc_version())
+
+    empty = os.path.join(directory, "empty.txt")
+    with open(empty, "wb"):
+        pass
+    compared_output(programs, empty)
+    start = best_times(programs, empty, repeat * EMPTY_REPEAT_FACTOR)
+    print("best of %d; process start (subtracted): ours %.2f ms, plain %.2f ms\n"
+          % (repeat, start[0], start[1]))
+
+    print(ROW % ("input", "trees", "leaves", "pairs", "ours ms", "plain ms", "ours/plain"))
+    for name, path in inputs.write_inputs(os.path.join(directory, "inputs")):
+        size = size_of(path, compared_output(programs, path))
+        times = best_times(programs, path, repeat)
+        our_time, plain_time = (max(0.0, t - s) for t, s in zip(times, start))
+        print(ROW % ((name,) + size + ("%.2f" % our_time, "%.2f" % plain_time,
+                                       ratio_text(our_time, plain_time))), flush=True)
+
+
+def positive(text):
+    """A whole number of 1 or more, for the command line."""
+    number = int(text)
+    if number < 1:
+        raise ValueError(text)
+    return number
+
+
+def main(arguments):
+    """Read the command line and run; gives the exit status."""
+    parser = argparse.ArgumentParser(description="Compare a pair lister's speed with the plain program's.")
+    parser.add_argument("program", metavar="OUR_PROGRAM", nargs="?",
+                        help="path of the pair lister; built for this machine if left out")
+    parser.add_argument("--repeat", metavar="N", type=positive, default=DEFAULT_REPEAT)
+    options = parser.parse_args(arguments)
+    program = options.program and os.path.abspath(options.program)
+    if program and (not os.access(program, os.X_OK) or os.path.isdir(program)):
+        parser.error("not an executable file: %s" % options.program)
+    try:
+        with tempfile.TemporaryDirectory() as directory:
+            run(program, options.repeat, directory)
+    except Failed as failed:
+        print("failed: %s" % failed, file=sys.stderr)
+        return 1
+    return 0
+
+
+if __name__ == "__main__":
+    sys.exit(main(sys.argv[1:]))

@@ -1,0 +1,329 @@
+//! Rooted binary trees as texts, and which of them are one prune and regraft apart: safe calls of the proved library.
+//!
+//! Any bytes may be given as a text: what is not as it should be is refused, with the reason and the place. Each call
+//! that gives a text or numbers comes in two kinds: one returns them, and one writes them into the caller's slices,
+//! allocates nothing and says how much it wrote.
+//!
+//! ```
+//! assert_eq!(norbelath::form(b"(3,(2,1));").unwrap(), b"((1,2),3);");
+//! assert_eq!(norbelath::cut(b"((1,2),(3,4));", 0).unwrap(), b"(3,4) (1,2);");
+//! assert_eq!(norbelath::pair(b"(((1,2),3),4);", b"((1,2),(3,4));"), Ok(true));
+//! let graph = norbelath::graph(b"((1,2),3); (1,(2,3)); ((1,2),3);").unwrap();
+//! assert_eq!(graph.pairs, [(0, 1), (1, 2)]);
+//! assert_eq!(graph.counts, [1, 2, 1]);
+//! let table = norbelath::table(b"(2,1); (1,2);").unwrap();
+//! assert_eq!(table.trees().collect::<Vec<_>>(), [b"(1,2);", b"(1,2);"]);
+//! let refusal = norbelath::form(b"(1,2").unwrap_err();
+//! assert_eq!((refusal.number, refusal.place), (norbelath::Refusal::WRONG_BYTE, 4));
+//! ```
+
+use std::error::Error;
+use std::fmt;
+
+/// Bytes of the longest text.
+pub const MAX_TEXT: usize = 65_535;
+/// Trees of the largest table.
+pub const MAX_TREES: usize = 160;
+
+/// The least length of the slice lent to [`form_into`].
+pub const FORM_OUT: usize = 309;
+/// The least length of the slice lent to [`cut_into`].
+pub const CUT_OUT: usize = 307;
+/// The least length of the slice lent to [`table_into`] for the texts.
+pub const TABLE_TEXTS: usize = 49_440;
+/// The least length of the slice lent to [`table_into`] for the ends.
+pub const TABLE_ENDS: usize = 160;
+/// The least length of the slice lent to [`graph_into`] for the pairs, two numbers each.
+pub const GRAPH_PAIRS: usize = 25_440;
+/// The least length of the slice lent to [`graph_into`] for the counts.
+pub const GRAPH_COUNTS: usize = 160;
+
+// A slice is a pointer and its length in elements. The library asks nothing else of its callers than what references
+// give: the memory is there, and what is lent to be written overlaps nothing.
+extern "C" {
+    fn norbelath_form(
+        text: *const u8,
+        text_len: usize,
+        out: *mut u8,
+        out_len: usize,
+        first: *mut u64,
+        second: *mut u64,
+    ) -> u8;
+    fn norbelath_cut(
+        text: *const u8,
+        text_len: usize,
+        cut: u64,
+        out: *mut u8,
+        out_len: usize,
+        first: *mut u64,
+        second: *mut u64,
+    ) -> u8;
+    fn norbelath_pair(
+        text: *const u8,
+        text_len: usize,
+        other: *const u8,
+        other_len: usize,
+        first: *mut u64,
+        second: *mut u64,
+    ) -> u8;
+    fn norbelath_table(
+        text: *const u8,
+        text_len: usize,
+        texts: *mut u8,
+        texts_len: usize,
+        ends: *mut u32,
+        ends_len: usize,
+        first: *mut u64,
+        second: *mut u64,
+    ) -> u8;
+    fn norbelath_graph(
+        text: *const u8,
+        text_len: usize,
+        pairs: *mut u16,
+        pairs_len: usize,
+        counts: *mut u16,
+        counts_len: usize,
+        first: *mut u64,
+        second: *mut u64,
+    ) -> u8;
+}
+
+/// Why a call refuses. No lent slice is changed then.
+#[derive(Clone, Copy, Debug, PartialEq, Eq, Hash)]
+pub struct Refusal {
+    /// One of the numbers below, 1 to 9.
+    pub number: u8,
+    /// Which text: 0, or 1 for the pair call's other.
+    pub text: u8,
+    /// The place in that text, counted from 0; its length where it ends too soon. 0 for 7, 8 and 9.
+    pub place: usize,
+}
+
+impl Refusal {
+    /// A byte that cannot stand there, or the text ends too soon.
+    pub const WRONG_BYTE: u8 = 1;
+    /// A label with a leading zero or not 1 to 64; the place is its first digit.
+    pub const BAD_LABEL: u8 = 2;
+    /// A label that is already in this tree; the place is its first digit.
+    pub const LABEL_AGAIN: u8 = 3;
+    /// A bracket that opens while 63 are open.
+    pub const TOO_DEEP: u8 = 4;
+    /// Labels other than the first tree's; the place is the `;` of the tree that differs.
+    pub const LABELS_DIFFER: u8 = 5;
+    /// Any byte but a blank after 160 trees.
+    pub const TOO_MANY_TREES: u8 = 6;
+    /// A lent slice that is too short.
+    pub const SHORT_SLICE: u8 = 7;
+    /// A text above 65,535 bytes.
+    pub const LONG_TEXT: u8 = 8;
+    /// A cut number that the tree does not have.
+    pub const NO_SUCH_CUT: u8 = 9;
+}
+
+impl fmt::Display for Refusal {
+    fn fmt(&self, f: &mut fmt::Formatter<'_>) -> fmt::Result {
+        let reason = match self.number {
+            Refusal::WRONG_BYTE => "a byte that cannot stand there, or the text ends too soon",
+            Refusal::BAD_LABEL => "a label with a leading zero or not 1 to 64",
+            Refusal::LABEL_AGAIN => "a label that is already in this tree",
+            Refusal::TOO_DEEP => "a bracket that opens while 63 are open",
+            Refusal::LABELS_DIFFER => "labels other than the first tree's",
+            Refusal::TOO_MANY_TREES => "more than 160 trees",
+            Refusal::SHORT_SLICE => "a lent slice that is too short",
+            Refusal::LONG_TEXT => "a text above 65,535 bytes",
+            Refusal::NO_SUCH_CUT => "a cut number that the tree does not have",
+            _ => "unknown",
+        };
+        write!(
+            f,
+            "refused {} at {} of text {}: {reason}",
+            self.number, self.place, self.text
+        )
+    }
+}
+
+impl Error for Refusal {}
+
+/// How much [`table_into`] wrote.
+#[derive(Clone, Copy, Debug, PartialEq, Eq)]
+pub struct TableSize {
+    pub bytes: usize,
+    pub trees: usize,
+}
+
+/// How much [`graph_into`] wrote: a count for each tree, and two numbers for each pair.
+#[derive(Clone, Copy, Debug, PartialEq, Eq)]
+pub struct GraphSize {
+    pub trees: usize,
+    pub pairs: usize,
+}
+
+/// What [`table`] gives: the canonical texts one after another, and the end of each, the offset behind its `;`.
+#[derive(Clone, Debug, PartialEq, Eq)]
+pub struct Table {
+    pub texts: Vec<u8>,
+    pub ends: Vec<u32>,
+}
+
+impl Table {
+    /// The canonical text of each tree.
+    pub fn trees(&self) -> impl Iterator<Item = &[u8]> + '_ {
+        let mut start = 0;
+        self.ends.iter().map(move |&end| {
+            let text = &self.texts[start..end as usize];
+            start = end as usize;
+            text
+        })
+    }
+}
+
+/// What [`graph`] gives: the pairs of positions i < j that are one move apart, in order of i and then j, and for each
+/// position the number of pairs it is in.
+#[derive(Clone, Debug, PartialEq, Eq)]
+pub struct Graph {
+    pub pairs: Vec<(u16, u16)>,
+    pub counts: Vec<u16>,
+}
+
+/// Makes a call that is lent two numbers, and reads its result: the two numbers of what is accepted, or the refusal.
+fn answer(call: impl FnOnce(&mut u64, &mut u64) -> u8) -> Result<(usize, usize), Refusal> {
+    let (mut first, mut second) = (0, 0);
+    match call(&mut first, &mut second) {
+        0 => Ok((first as usize, second as usize)),
+        number => Err(Refusal {
+            number,
+            text: first as u8,
+            place: second as usize,
+        }),
+    }
+}
+
+/// Writes the canonical text of a text's one tree into `out`, of at least [`FORM_OUT`] bytes. Gives its length.
+pub fn form_into(text: &[u8], out: &mut [u8]) -> Result<usize, Refusal> {
+    // SAFETY: the pointers and lengths are those of slices, and `&mut` overlaps nothing; so below.
+    let (bytes, _) = answer(|first, second| unsafe {
+        norbelath_form(
+            text.as_ptr(),
+            text.len(),
+            out.as_mut_ptr(),
+            out.len(),
+            first,
+            second,
+        )
+    })?;
+    Ok(bytes)
+}
+
+/// Writes the forest text of a cut of a text's one tree into `out`, of at least [`CUT_OUT`] bytes. Gives its length.
+///
+/// A tree of n leaves has the cuts 0 to 2n − 3, in the order in which its nodes begin in the canonical text, without
+/// the root.
+pub fn cut_into(text: &[u8], cut: u64, out: &mut [u8]) -> Result<usize, Refusal> {
+    let (bytes, _) = answer(|first, second| unsafe {
+        norbelath_cut(
+            text.as_ptr(),
+            text.len(),
+            cut,
+            out.as_mut_ptr(),
+            out.len(),
+            first,
+            second,
+        )
+    })?;
+    Ok(bytes)
+}
+
+/// Whether one move makes the tree of `text` that of `other`, a different topology.
+pub fn pair(text: &[u8], other: &[u8]) -> Result<bool, Refusal> {
+    let (yes, _) = answer(|first, second| unsafe {
+        norbelath_pair(
+            text.as_ptr(),
+            text.len(),
+            other.as_ptr(),
+            other.len(),
+            first,
+            second,
+        )
+    })?;
+    Ok(yes == 1)
+}
+
+/// Writes the canonical texts of a text's trees into `texts`, one after another, of at least [`TABLE_TEXTS`] bytes, and
+/// the end of each into `ends`, of at least [`TABLE_ENDS`] numbers.
+pub fn table_into(text: &[u8], texts: &mut [u8], ends: &mut [u32]) -> Result<TableSize, Refusal> {
+    let (bytes, trees) = answer(|first, second| unsafe {
+        norbelath_table(
+            text.as_ptr(),
+            text.len(),
+            texts.as_mut_ptr(),
+            texts.len(),
+            ends.as_mut_ptr(),
+            ends.len(),
+            first,
+            second,
+        )
+    })?;
+    Ok(TableSize { bytes, trees })
+}
+
+/// Writes the pairs of a text's trees that are one move apart into `pairs`, i and then j of each, of at least
+/// [`GRAPH_PAIRS`] numbers, and each tree's number of pairs into `counts`, of at least [`GRAPH_COUNTS`].
+pub fn graph_into(
+    text: &[u8],
+    pairs: &mut [u16],
+    counts: &mut [u16],
+) -> Result<GraphSize, Refusal> {
+    let (trees, pairs) = answer(|first, second| unsafe {
+        norbelath_graph(
+            text.as_ptr(),
+            text.len(),
+            pairs.as_mut_ptr(),
+            pairs.len(),
+            counts.as_mut_ptr(),
+            counts.len(),
+            first,
+            second,
+        )
+    })?;
+    Ok(GraphSize { trees, pairs })
+}
+
+/// The canonical text of a text's one tree.
+pub fn form(text: &[u8]) -> Result<Vec<u8>, Refusal> {
+    let mut out = vec![0; FORM_OUT];
+    let bytes = form_into(text, &mut out)?;
+    out.truncate(bytes);
+    Ok(out)
+}
+
+/// The forest text of a cut of a text's one tree: what the cut leaves, a space, what it takes away and `;`.
+pub fn cut(text: &[u8], cut: u64) -> Result<Vec<u8>, Refusal> {
+    let mut out = vec![0; CUT_OUT];
+    let bytes = cut_into(text, cut, &mut out)?;
+    out.truncate(bytes);
+    Ok(out)
+}
+
+/// The canonical texts of a text's trees, and the end of each.
+pub fn table(text: &[u8]) -> Result<Table, Refusal> {
+    let mut texts = vec![0; TABLE_TEXTS];
+    let mut ends = vec![0; TABLE_ENDS];
+    let size = table_into(text, &mut texts, &mut ends)?;
+    texts.truncate(size.bytes);
+    ends.truncate(size.trees);
+    Ok(Table { texts, ends })
+}
+
+/// The pairs of a text's trees that are one move apart, and each tree's number of pairs.
+pub fn graph(text: &[u8]) -> Result<Graph, Refusal> {
+    let mut pairs = vec![0; GRAPH_PAIRS];
+    let mut counts = vec![0; GRAPH_COUNTS];
+    let size = graph_into(text, &mut pairs, &mut counts)?;
+    pairs.truncate(2 * size.pairs);
+    counts.truncate(size.trees);
+    let pairs = pairs
+        .chunks_exact(2)
+        .map(|pair| (pair[0], pair[1]))
+        .collect();
+    Ok(Graph { pairs, counts })
+}

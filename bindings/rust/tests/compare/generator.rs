@@ -1,0 +1,210 @@
+//! Trees, their texts and damage to them, the same in every run.
+
+/// A small generator of numbers (SplitMix64).
+pub struct Random(u64);
+
+impl Random {
+    pub fn new(seed: u64) -> Random {
+        Random(seed)
+    }
+
+    pub fn next(&mut self) -> u64 {
+        self.0 = self.0.wrapping_add(0x9E37_79B9_7F4A_7C15);
+        let mut z = self.0;
+        z = (z ^ (z >> 30)).wrapping_mul(0xBF58_476D_1CE4_E5B9);
+        z = (z ^ (z >> 27)).wrapping_mul(0x94D0_49BB_1331_11EB);
+        z ^ (z >> 31)
+    }
+
+    /// A number below n, which is not 0.
+    pub fn below(&mut self, n: usize) -> usize {
+        (self.next() % n as u64) as usize
+    }
+
+    /// True so many times in a hundred.
+    pub fn percent(&mut self, n: usize) -> bool {
+        self.below(100) < n
+    }
+
+    pub fn pick<T: Copy>(&mut self, from: &[T]) -> T {
+        from[self.below(from.len())]
+    }
+
+    pub fn shuffle<T>(&mut self, items: &mut [T]) {
+        for i in (1..items.len()).rev() {
+            items.swap(i, self.below(i + 1));
+        }
+    }
+}
+
+#[derive(Clone)]
+pub enum Tree {
+    Leaf(u8),
+    Fork(Box<Tree>, Box<Tree>),
+}
+
+use Tree::{Fork, Leaf};
+
+fn fork(one: Tree, other: Tree) -> Tree {
+    Fork(Box::new(one), Box::new(other))
+}
+
+/// n labels of 1 to 64: the first n, or any.
+pub fn labels(random: &mut Random, n: usize) -> Vec<u8> {
+    let mut all: Vec<u8> = (1..=64).collect();
+    if random.percent(50) {
+        random.shuffle(&mut all);
+    }
+    all.truncate(n);
+    random.shuffle(&mut all);
+    all
+}
+
+impl Tree {
+    /// A tree with these labels: each further leaf hangs anywhere, or the tree is a comb, which is the deepest.
+    pub fn random(random: &mut Random, labels: &[u8]) -> Tree {
+        let comb = random.percent(20);
+        let mut tree = Leaf(labels[0]);
+        for &label in &labels[1..] {
+            let at = if comb { 0 } else { random.below(tree.nodes()) };
+            tree = tree.grafted(at, Leaf(label));
+        }
+        tree
+    }
+
+    /// The number of nodes. Nodes are numbered from the root on, a fork before its children.
+    pub fn nodes(&self) -> usize {
+        match self {
+            Leaf(_) => 1,
+            Fork(one, other) => 1 + one.nodes() + other.nodes(),
+        }
+    }
+
+    /// The tree with `new` hung on the edge above node `at`.
+    fn grafted(self, at: usize, new: Tree) -> Tree {
+        match self {
+            Fork(one, other) if at > 0 => {
+                let half = one.nodes();
+                if at - 1 < half {
+                    fork(one.grafted(at - 1, new), *other)
+                } else {
+                    fork(*one, other.grafted(at - 1 - half, new))
+                }
+            }
+            tree => fork(tree, new),
+        }
+    }
+
+    /// The tree without node `at`, which is not the root, and that node.
+    fn pruned(self, at: usize) -> (Tree, Tree) {
+        let Fork(one, other) = self else {
+            panic!("a leaf has no further node");
+        };
+        let half = one.nodes();
+        if at == 1 {
+            (*other, *one)
+        } else if at == 1 + half {
+            (*one, *other)
+        } else if at < 1 + half {
+            let (rest, gone) = one.pruned(at - 1);
+            (fork(rest, *other), gone)
+        } else {
+            let (rest, gone) = other.pruned(at - 1 - half);
+            (fork(*one, rest), gone)
+        }
+    }
+
+    /// The tree after a random prune and regraft, which may give the same topology again.
+    pub fn moved(self, random: &mut Random) -> Tree {
+        if self.nodes() == 1 {
+            return self;
+        }
+        let at = 1 + random.below(self.nodes() - 1);
+        let (rest, gone) = self.pruned(at);
+        let at = random.below(rest.nodes());
+        rest.grafted(at, gone)
+    }
+
+    /// A text of the tree, `;` included: children in any order, and blanks before so many tokens in a hundred.
+    pub fn text(&self, random: &mut Random, blanks: usize) -> Vec<u8> {
+        let mut out = Vec::new();
+        self.write(random, blanks, &mut out);
+        token(random, blanks, b";", &mut out);
+        out
+    }
+
+    fn write(&self, random: &mut Random, blanks: usize, out: &mut Vec<u8>) {
+        match self {
+            Leaf(label) => token(random, blanks, label.to_string().as_bytes(), out),
+            Fork(one, other) => {
+                let (one, other) = if random.percent(50) {
+                    (one, other)
+                } else {
+                    (other, one)
+                };
+                token(random, blanks, b"(", out);
+                one.write(random, blanks, out);
+                token(random, blanks, b",", out);
+                other.write(random, blanks, out);
+                token(random, blanks, b")", out);
+            }
+        }
+    }
+}
+
+fn token(random: &mut Random, blanks: usize, token: &[u8], out: &mut Vec<u8>) {
+    while random.percent(blanks) {
+        out.push(random.pick(b" \t\r\n"));
+    }
+    out.extend_from_slice(token);
+}
+
+/// Bytes that texts are made of, and a few that they are not.
+const BYTES: &[u8] = b"(((),,,);;;  \t\r\n00123456789x[-\0\x0b\xff";
+
+/// Digits that are labels, or not quite.
+const LABELS: [&[u8]; 10] = [
+    b"0",
+    b"00",
+    b"01",
+    b"1",
+    b"64",
+    b"65",
+    b"99",
+    b"100",
+    b"065",
+    b"18446744073709551617",
+];
+
+/// Damages a text in one to three places.
+pub fn damage(random: &mut Random, text: &mut Vec<u8>) {
+    for _ in 0..1 + random.below(3) {
+        let at = random.below(text.len() + 1);
+        let byte = random.pick(BYTES);
+        let rest = text.len() - at;
+        match random.below(8) {
+            0 => text.truncate(at),
+            1 => text.insert(at, byte),
+            2 if rest > 0 => text[at] = byte,
+            3 if rest > 0 => drop(text.remove(at)),
+            4 if rest > 1 => text.swap(at, at + 1),
+            5 => {
+                let part = text[at..at + random.below(rest.min(12) + 1)].to_vec();
+                let to = random.below(text.len() + 1);
+                text.splice(to..to, part);
+            }
+            // A label, if one begins here or behind.
+            _ => {
+                let Some(start) = text[at..].iter().position(u8::is_ascii_digit) else {
+                    continue;
+                };
+                let start = at + start;
+                let digits = text[start..]
+                    .iter()
+                    .take_while(|b| b.is_ascii_digit())
+                    .count();
+                text.splice(start..start + digits, random.pick(&LABELS).iter().copied());
+            }
+        }
+    }
+}

@@ -1,0 +1,271 @@
+//! The library beside an independent implementation, on texts that are the same in every run.
+
+mod comparison;
+mod generator;
+
+use comparison::Comparison;
+use generator::{damage, labels, Random, Tree};
+use norbelath::{MAX_TEXT, MAX_TREES};
+
+/// Every text of up to so many of these bytes.
+fn every_text(bytes: &[u8], most: usize) -> Vec<Vec<u8>> {
+    let mut texts: Vec<Vec<u8>> = vec![vec![]];
+    let mut from = 0;
+    for _ in 0..most {
+        let to = texts.len();
+        for i in from..to {
+            for &byte in bytes {
+                let mut text = texts[i].clone();
+                text.push(byte);
+                texts.push(text);
+            }
+        }
+        from = to;
+    }
+    texts
+}
+
+fn random_tree(random: &mut Random, most_leaves: usize) -> Tree {
+    let n = 1 + random.below(most_leaves);
+    let labels = labels(random, n);
+    Tree::random(random, &labels)
+}
+
+/// Cut numbers in a tree of so many cuts, just behind its last one, and far behind, where the low bits are those of a
+/// cut.
+fn some_cuts(random: &mut Random, cuts: usize) -> [u64; 6] {
+    let inside = random.below(cuts.max(1)) as u64;
+    let cuts = cuts as u64;
+    [
+        inside,
+        cuts.saturating_sub(1),
+        cuts,
+        cuts + 1,
+        (1 << 32) + inside,
+        u64::MAX - inside,
+    ]
+}
+
+#[test]
+fn every_short_text() {
+    let mut compare = Comparison::new(1);
+    for (i, text) in every_text(b"(),;12 0", 5).iter().enumerate() {
+        compare.form(text);
+        compare.cut(text, i as u64 % 4);
+        compare.pair(text, b"(2,1);");
+        compare.pair(b"1;", text);
+    }
+    let least = [(0, 100), (1, 100_000), (2, 30_000), (3, 50), (5, 100)];
+    compare.met("every short text", &least);
+}
+
+#[test]
+fn every_short_table() {
+    let mut compare = Comparison::new(2);
+    for text in every_text(b",;12 0", 5) {
+        compare.table(&text);
+        compare.graph(&text);
+    }
+    let least = [(0, 100), (1, 5_000), (2, 5_000), (5, 50)];
+    compare.met("every short table", &least);
+}
+
+#[test]
+fn every_cut_of_random_trees() {
+    let mut compare = Comparison::new(3);
+    for leaves in (1..=64).cycle().take(320) {
+        let labels = labels(&mut compare.random, leaves);
+        let text = Tree::random(&mut compare.random, &labels).text(&mut compare.random, 10);
+        compare.form(&text);
+        let cuts = 2 * leaves - 2;
+        for cut in 0..cuts as u64 {
+            compare.cut(&text, cut);
+        }
+        for cut in some_cuts(&mut compare.random, cuts) {
+            compare.cut(&text, cut);
+        }
+    }
+    let least = [(0, 20_000), (7, 20_000), (9, 1_000)];
+    compare.met("every cut of random trees", &least);
+}
+
+/// Two trees after no move, one, two and many; some with other labels.
+#[test]
+fn pairs_of_trees() {
+    let mut compare = Comparison::new(4);
+    let (mut yes, mut no) = (0, 0);
+    for turn in 0..12_000 {
+        let leaves = 1 + compare.random.below([64, 8][turn % 2]);
+        let set = labels(&mut compare.random, leaves);
+        let tree = Tree::random(&mut compare.random, &set);
+        let mut other = tree.clone();
+        if turn % 5 == 0 {
+            let set = labels(&mut compare.random, leaves);
+            other = Tree::random(&mut compare.random, &set);
+        }
+        for _ in 0..compare.random.pick(&[0, 1, 1, 2, 3, 20]) {
+            other = other.moved(&mut compare.random);
+        }
+        let text = tree.text(&mut compare.random, 5);
+        let other = other.text(&mut compare.random, 5);
+        match compare.pair(&text, &other) {
+            Some(true) => yes += 1,
+            Some(false) => no += 1,
+            None => {}
+        }
+    }
+    compare.met("pairs of trees", &[(0, 8_000), (5, 1_000)]);
+    assert!(yes >= 2_000 && no >= 2_000, "{yes} yes and {no} no only");
+}
+
+#[test]
+fn damaged_texts() {
+    let mut compare = Comparison::new(5);
+    for turn in 0..12_000 {
+        let tree = random_tree(&mut compare.random, [64, 6][turn % 2]);
+        let whole = tree.text(&mut compare.random, 5);
+        let mut text = whole.clone();
+        damage(&mut compare.random, &mut text);
+        let mut other = whole.clone();
+        damage(&mut compare.random, &mut other);
+        compare.form(&text);
+        for cut in some_cuts(&mut compare.random, tree.nodes() - 1) {
+            compare.cut(&text, cut);
+        }
+        compare.pair(&text, &whole);
+        compare.pair(&whole, &text);
+        compare.pair(&text, &other);
+    }
+    let least = [
+        (0, 4_000),
+        (1, 50_000),
+        (2, 20_000),
+        (3, 5_000),
+        (5, 500),
+        (9, 4_000),
+    ];
+    compare.met("damaged texts", &least);
+}
+
+/// Tables of trees that are near each other, whole and damaged, up to and above 160 of them.
+#[test]
+fn tables_of_trees() {
+    let mut compare = Comparison::new(6);
+    for turn in 0..4_000 {
+        let trees = match turn % 20 {
+            0 => MAX_TREES,
+            1 => MAX_TREES + 1,
+            _ => compare.random.below(24),
+        };
+        let leaves = 1 + compare.random.below([7, 7, 7, 20][turn % 4]);
+        let mut set = labels(&mut compare.random, leaves);
+        let mut tree = Tree::random(&mut compare.random, &set);
+        let mut text = Vec::new();
+        for _ in 0..trees {
+            text.extend(tree.text(&mut compare.random, 2));
+            for _ in 0..compare.random.pick(&[0, 1, 1, 2, 5]) {
+                tree = tree.moved(&mut compare.random);
+            }
+            if compare.random.percent(1) {
+                set = labels(&mut compare.random, leaves);
+                tree = Tree::random(&mut compare.random, &set);
+            }
+        }
+        if turn % 3 == 2 {
+            damage(&mut compare.random, &mut text);
+        }
+        compare.table(&text);
+        compare.graph(&text);
+    }
+    let least = [(0, 4_000), (1, 1_000), (2, 500), (3, 50), (5, 500), (6, 50)];
+    compare.met("tables of trees", &least);
+}
+
+/// A full table of the largest trees, each one move from the one before. Then a byte behind it.
+#[test]
+fn full_table() {
+    let mut compare = Comparison::new(7);
+    let labels: Vec<u8> = (1..=64).collect();
+    let mut tree = Tree::random(&mut compare.random, &labels);
+    let mut text = Vec::new();
+    for _ in 0..MAX_TREES {
+        text.extend(tree.text(&mut compare.random, 0));
+        tree = tree.moved(&mut compare.random);
+    }
+    compare.table(&text);
+    compare.graph(&text);
+    text.extend(b" \t;");
+    compare.table(&text);
+    compare.graph(&text);
+    compare.met("full table", &[(0, 2), (6, 2)]);
+}
+
+/// Text lengths around the limit. Too long goes before anything in the text, and too short a slice before that.
+#[test]
+fn long_texts() {
+    let mut compare = Comparison::new(8);
+    let lengths = [MAX_TEXT - 1, MAX_TEXT, MAX_TEXT + 1, 2 * MAX_TEXT, 1 << 17];
+    for turn in 0..120 {
+        let tree = random_tree(&mut compare.random, 64).text(&mut compare.random, 0);
+        let length = lengths[turn % 5];
+        // A tree among blanks, among bytes that are none or in a long label; or only those.
+        let mut text = vec![b" \nx7"[turn % 4]; length];
+        if turn % 7 > 0 {
+            let places = [0, length / 2, length - tree.len()];
+            let at = compare.random.pick(&places);
+            text[at..at + tree.len()].copy_from_slice(&tree);
+        }
+        compare.form(&text);
+        compare.cut(&text, 0);
+        compare.pair(&text, &tree);
+        compare.pair(&tree, &text);
+        compare.pair(&text, &text);
+        compare.table(&text);
+        compare.graph(&text);
+        compare.short_tables(&text);
+    }
+    compare.met("long texts", &[(0, 100), (1, 100), (7, 500), (8, 500)]);
+}
+
+/// Brackets around the limit of 63, alone or behind a subtree of many leaves.
+#[test]
+fn deep_texts() {
+    let mut compare = Comparison::new(9);
+    for turn in 0..2_000 {
+        let mut text = Vec::new();
+        if turn % 3 == 0 {
+            text.push(b'(');
+            text.extend(random_tree(&mut compare.random, 63).text(&mut compare.random, 0));
+            *text.last_mut().unwrap() = b',';
+        }
+        let open = 50 + turn % 30;
+        text.extend(vec![b'('; open]);
+        let first = compare.random.below(3);
+        text.extend(first.to_string().bytes());
+        for label in first + 1..=first + open {
+            text.extend(format!(",{label})").bytes());
+        }
+        text.push(b';');
+        compare.form(&text);
+        compare.cut(&text, turn as u64 % 130);
+        compare.pair(&text, b"1;");
+        compare.table(&text);
+        compare.graph(&text);
+    }
+    let least = [(0, 1_000), (2, 1_000), (3, 1_000), (4, 5_000)];
+    compare.met("deep texts", &least);
+}
+
+/// A slice that is too short is refused before the text is looked at, whatever the text is.
+#[test]
+fn short_slices() {
+    let mut compare = Comparison::new(10);
+    for turn in 0..2_000 {
+        let mut text = random_tree(&mut compare.random, 64).text(&mut compare.random, 5);
+        if turn % 2 == 0 {
+            damage(&mut compare.random, &mut text);
+        }
+        compare.short_tables(&text);
+    }
+    compare.met("short slices", &[(7, 12_000)]);
+}

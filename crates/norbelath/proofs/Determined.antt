@@ -1,0 +1,84 @@
+-- The promise of each exported function determines its result, both lent numbers and the lent slices at exit.
+-- Assumes nothing.
+use mathlib.Core.Path.{_≡_, refl, sym, ap, _∙_}
+use mathlib.Core.Bool.{Bool, true, false}
+use mathlib.Core.List.{List}
+use Prim.Native.Nat.{ℕ, zero, suc}
+use Rattle.meaning.specs.Answer.{Answer, accepted, refusal, Outcome, TableSize, TableMemory, GraphSize, GraphMemory}
+use Rattle.meaning.specs.Calls.{PairCall, GraphCall}
+use Rattle.meaning.proofs.Determined.{pair-determined, graph-determined}
+use Rattle.norbelath.specs.Coded.{coded, textValue, pairValue, tableValue, graphValue, textCoded, tableCoded, graphCoded}
+use Rattle.norbelath.specs.declared.Reply.{Reply}
+
+abbrev pub reply : ℕ → ℕ → ℕ → Reply
+reply r x y = record { result = r; first = x; second = y }
+
+-- the three numbers of an answer
+abbrev numbers : {A : Type 0} → (A → ℕ) → (A → ℕ) → Answer A → Reply
+numbers first second (accepted a) = reply 0 (first a) (second a)
+numbers first second (refusal n i p) = reply n i p
+
+abbrev textNumbers : Answer ℕ → Reply
+textNumbers a = numbers (λ n. n) (λ n. 0) a
+
+abbrev yes : Bool → ℕ
+yes true = 1
+yes false = 0
+
+abbrev pairNumbers : Answer Bool → Reply
+pairNumbers a = numbers yes (λ b. 0) a
+
+abbrev tableNumbers : Answer TableSize → Reply
+tableNumbers a = numbers (λ k. k .bytes) (λ k. k .trees) a
+
+abbrev graphNumbers : Answer GraphSize → Reply
+graphNumbers a = numbers (λ k. k .trees) (λ k. k .pairs) a
+
+-- they are the ones that code it
+text-back : (r x y : ℕ) → textNumbers (coded textValue r x y) ≡ reply r x y
+text-back zero x zero = refl
+text-back zero x (suc y) = refl
+text-back (suc r) x y = refl
+
+pair-back : (r x y : ℕ) → pairNumbers (coded pairValue r x y) ≡ reply r x y
+pair-back zero zero zero = refl
+pair-back zero (suc zero) zero = refl
+pair-back zero (suc (suc x)) zero = refl
+pair-back zero x (suc y) = refl
+pair-back (suc r) x y = refl
+
+table-back : (r x y : ℕ) → tableNumbers (coded tableValue r x y) ≡ reply r x y
+table-back zero x y = refl
+table-back (suc r) x y = refl
+
+graph-back : (r x y : ℕ) → graphNumbers (coded graphValue r x y) ≡ reply r x y
+graph-back zero x y = refl
+graph-back (suc r) x y = refl
+
+module _ {r r′ x x′ y y′ : ℕ} where
+  -- the form call and the cut call
+  pub text-code-determined : {o : Outcome ℕ (List ℕ)} {out out′ : List ℕ} → textCoded r x y out ≡ o → textCoded r′ x′ y′ out′ ≡ o → (reply r x y ≡ reply r′ x′ y′) × (out ≡ out′)
+  text-code-determined e f =
+      let h = e ∙ sym f in (
+        sym (text-back r x y) ∙ ap (λ (z : Outcome ℕ (List ℕ)). textNumbers (z .answer)) h ∙ text-back r′ x′ y′,
+        ap (λ (z : Outcome ℕ (List ℕ)). z .memory) h,
+      )
+
+  pub pair-code-determined : {s s′ : List ℕ} → PairCall s s′ (coded pairValue r x y) → PairCall s s′ (coded pairValue r′ x′ y′) → reply r x y ≡ reply r′ x′ y′
+  pair-code-determined e f = sym (pair-back r x y) ∙ ap pairNumbers (pair-determined e f) ∙ pair-back r′ x′ y′
+
+  pub table-code-determined : {o : Outcome TableSize TableMemory} {texts texts′ ends ends′ : List ℕ} → tableCoded r x y texts ends ≡ o → tableCoded r′ x′ y′ texts′ ends′ ≡ o → (reply r x y ≡ reply r′ x′ y′) × (texts ≡ texts′) × (ends ≡ ends′)
+  table-code-determined e f =
+      let h = e ∙ sym f in (
+        sym (table-back r x y) ∙ ap (λ (z : Outcome TableSize TableMemory). tableNumbers (z .answer)) h ∙ table-back r′ x′ y′,
+        ap (λ (z : Outcome TableSize TableMemory). z .memory .texts) h,
+        ap (λ (z : Outcome TableSize TableMemory). z .memory .ends) h,
+      )
+
+  pub graph-code-determined : {s : List ℕ} {memory : GraphMemory} {pairs pairs′ counts counts′ : List ℕ} → GraphCall s memory (graphCoded r x y pairs counts) → GraphCall s memory (graphCoded r′ x′ y′ pairs′ counts′) → (reply r x y ≡ reply r′ x′ y′) × (pairs ≡ pairs′) × (counts ≡ counts′)
+  graph-code-determined e f =
+      let h = graph-determined e f in (
+        sym (graph-back r x y) ∙ ap (λ (z : Outcome GraphSize GraphMemory). graphNumbers (z .answer)) h ∙ graph-back r′ x′ y′,
+        ap (λ (z : Outcome GraphSize GraphMemory). z .memory .pairs) h,
+        ap (λ (z : Outcome GraphSize GraphMemory). z .memory .counts) h,
+      )

@@ -1,0 +1,48 @@
+-- The answers of the exported functions: the result and the two lent numbers at exit, as document 01's values.
+-- Assumes nothing.
+use mathlib.Core.Bool.{Bool, true, false}
+use mathlib.Core.List.{List}
+use Prim.Native.Nat.{ℕ, zero, suc, _≤_}
+use Rattle.meaning.specs.Answer.{Answer, accepted, refusal, Outcome, TableSize, TableMemory, GraphSize, GraphMemory}
+
+-- result 0: accepted, and the numbers say what; else the refusal's number, and the numbers are which text and the place
+abbrev pub coded : {A : Type 0} → (ℕ → ℕ → Answer A) → ℕ → ℕ → ℕ → Answer A
+coded value zero x y = value x y
+coded value (suc n) x y = refusal (suc n) x y
+
+-- Numbers beside a result 0 that stand for no value are taken for a refusal 0, which no call gives: so no two codes are one answer.
+
+-- the form call and the cut call: the bytes written, and 0
+abbrev pub textValue : ℕ → ℕ → Answer ℕ
+textValue x zero = accepted x
+textValue x (suc y) = refusal 0 x (suc y)
+
+-- the pair call: 1 for yes and 0 for no, and 0
+abbrev pub pairValue : ℕ → ℕ → Answer Bool
+pairValue zero zero = accepted false
+pairValue (suc zero) zero = accepted true
+pairValue (suc (suc x)) zero = refusal 0 (suc (suc x)) 0
+pairValue x (suc y) = refusal 0 x (suc y)
+
+-- the table call: the bytes written, and the trees
+abbrev pub tableValue : ℕ → ℕ → Answer TableSize
+tableValue x y = accepted (record { bytes = x; trees = y })
+
+-- the graph call: the trees, and the pairs
+abbrev pub graphValue : ℕ → ℕ → Answer GraphSize
+graphValue x y = accepted (record { trees = x; pairs = y })
+
+-- with the lent memory at exit
+abbrev pub textCoded : ℕ → ℕ → ℕ → List ℕ → Outcome ℕ (List ℕ)
+textCoded r x y out = record { answer = coded textValue r x y; memory = out }
+
+abbrev pub tableCoded : ℕ → ℕ → ℕ → List ℕ → List ℕ → Outcome TableSize TableMemory
+tableCoded r x y texts ends = record { answer = coded tableValue r x y; memory = record { texts = texts; ends = ends } }
+
+abbrev pub graphCoded : ℕ → ℕ → ℕ → List ℕ → List ℕ → Outcome GraphSize GraphMemory
+graphCoded r x y pairs counts = record { answer = coded graphValue r x y; memory = record { pairs = pairs; counts = counts } }
+
+-- what is asked of an answer that is to be coded: a refusal's number is not 0
+abbrev pub Numbered : {A : Type 0} → Answer A → Type 0
+Numbered (accepted a) = Unit
+Numbered (refusal n i p) = 1 ≤ n

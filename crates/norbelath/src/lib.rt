@@ -1,0 +1,165 @@
+// The five calls for programs in C and Rust. None asks anything of its caller. Each answers by a result and two lent
+// numbers: `coded` in specs/ says which answer they are, and include/norbelath.h says it to a caller.
+use calls::GraphAnswer;
+use calls::PairAnswer;
+use calls::TableAnswer;
+use calls::TextAnswer;
+use reading::Refusal;
+ghost use mathlib.Core.Path.{_≡_};
+ghost use Rattle.meaning.specs.Calls.{formCall, cutCall, PairCall, tableCall, GraphCall};
+ghost use Rattle.calls.specs.Paper.{textAnswer, pairAnswer, tableAnswer, graphAnswer};
+ghost use Rattle.norbelath.specs.Coded.{coded, textValue, pairValue, tableValue, graphValue, textCoded, tableCoded, graphCoded, Numbered};
+
+// A result and the two numbers beside it.
+struct Reply {
+    result: u8,
+    first: u64,
+    second: u64,
+}
+
+// Result 0, and two numbers that say what is accepted.
+fn accepted(first: usize, second: usize) -> Reply
+    ensures { λ r. ⌜ r ≡ record { result = 0; first = first; second = second } ⌝ }
+{
+    Reply {
+        result: 0,
+        first: first as u64,
+        second: second as u64,
+    }
+}
+
+// The refusal's number, which text and the place.
+fn refused(x: Refusal) -> Reply
+    ensures { λ r. ⌜ r ≡ record { result = x .number; first = x .text; second = x .place } ⌝ }
+{
+    Reply {
+        result: x.number,
+        first: x.text as u64,
+        second: x.place as u64,
+    }
+}
+
+fn text_reply(answer: TextAnswer) -> Reply
+    requires { ⌜ Numbered (textAnswer answer) ⌝ }
+    ensures { λ r. ⌜ coded textValue (r .result) (r .first) (r .second) ≡ textAnswer answer ⌝ }
+{
+    match answer {
+        TextAnswer::Written(bytes) => accepted(bytes, 0),
+        TextAnswer::Refused(x) => refused(x),
+    }
+}
+
+fn pair_reply(answer: PairAnswer) -> Reply
+    requires { ⌜ Numbered (pairAnswer answer) ⌝ }
+    ensures { λ r. ⌜ coded pairValue (r .result) (r .first) (r .second) ≡ pairAnswer answer ⌝ }
+{
+    match answer {
+        PairAnswer::Yes => accepted(1, 0),
+        PairAnswer::No => accepted(0, 0),
+        PairAnswer::Refused(x) => refused(x),
+    }
+}
+
+fn table_reply(answer: TableAnswer) -> Reply
+    requires { ⌜ Numbered (tableAnswer answer) ⌝ }
+    ensures { λ r. ⌜ coded tableValue (r .result) (r .first) (r .second) ≡ tableAnswer answer ⌝ }
+{
+    match answer {
+        TableAnswer::Written(bytes, trees) => accepted(bytes, trees),
+        TableAnswer::Refused(x) => refused(x),
+    }
+}
+
+fn graph_reply(answer: GraphAnswer) -> Reply
+    requires { ⌜ Numbered (graphAnswer answer) ⌝ }
+    ensures { λ r. ⌜ coded graphValue (r .result) (r .first) (r .second) ≡ graphAnswer answer ⌝ }
+{
+    match answer {
+        GraphAnswer::Listed(trees, pairs) => accepted(trees, pairs),
+        GraphAnswer::Refused(x) => refused(x),
+    }
+}
+
+// A reply as the result and the lent numbers.
+fn hand_back(reply: Reply, first: &mut u64, second: &mut u64) -> u8
+    ensures { λ r. ⌜ record { result = r; first = now (first .exit); second = now (second .exit) } ≡ reply ⌝ }
+{
+    *first = reply.first;
+    *second = reply.second;
+    reply.result
+}
+
+// Form call: the numbers are the bytes written and 0.
+#[no_mangle]
+pub extern "C" fn norbelath_form(
+    text: &[u8],
+    out: &mut [u8],
+    first: &mut u64,
+    second: &mut u64,
+) -> u8
+    ensures { λ r. ⌜ textCoded r (now (first .exit)) (now (second .exit)) (now (out .exit)) ≡ formCall (now (text .entry)) (now (out .entry)) ⌝ }
+{
+    hand_back(text_reply(calls::form_call(text, out)), first, second)
+}
+
+// Cut call: the numbers are the bytes written and 0.
+#[no_mangle]
+pub extern "C" fn norbelath_cut(
+    text: &[u8],
+    cut: u64,
+    out: &mut [u8],
+    first: &mut u64,
+    second: &mut u64,
+) -> u8
+    ensures { λ r. ⌜ textCoded r (now (first .exit)) (now (second .exit)) (now (out .exit)) ≡ cutCall (now (text .entry)) cut (now (out .entry)) ⌝ }
+{
+    hand_back(
+        text_reply(calls::cut_call(text, cut as usize, out)),
+        first,
+        second,
+    )
+}
+
+// Pair call: the numbers are 1 for yes or 0 for no, and 0.
+#[no_mangle]
+pub extern "C" fn norbelath_pair(text: &[u8], other: &[u8], first: &mut u64, second: &mut u64) -> u8
+    ensures { λ r. ⌜ PairCall (now (text .entry)) (now (other .entry)) (coded pairValue r (now (first .exit)) (now (second .exit))) ⌝ }
+{
+    hand_back(pair_reply(calls::pair_call(text, other)), first, second)
+}
+
+// Table call: the numbers are the bytes written and the trees.
+#[no_mangle]
+pub extern "C" fn norbelath_table(
+    text: &[u8],
+    texts: &mut [u8],
+    ends: &mut [u32],
+    first: &mut u64,
+    second: &mut u64,
+) -> u8
+    ensures { λ r. ⌜ tableCoded r (now (first .exit)) (now (second .exit)) (now (texts .exit)) (now (ends .exit)) ≡ tableCall (now (text .entry)) (record { texts = now (texts .entry); ends = now (ends .entry) }) ⌝ }
+{
+    hand_back(
+        table_reply(calls::table_call(text, texts, ends)),
+        first,
+        second,
+    )
+}
+
+// Graph call: the numbers are the trees and the pairs.
+#[no_mangle]
+pub extern "C" fn norbelath_graph(
+    text: &[u8],
+    pairs: &mut [u16],
+    counts: &mut [u16],
+    first: &mut u64,
+    second: &mut u64,
+) -> u8
+    ensures { λ r. ⌜ GraphCall (now (text .entry)) (record { pairs = now (pairs .entry); counts = now (counts .entry) }) (graphCoded r (now (first .exit)) (now (second .exit)) (now (pairs .exit)) (now (counts .exit))) ⌝ }
+{
+    hand_back(
+        graph_reply(calls::graph_call(text, pairs, counts)),
+        first,
+        second,
+    )
+}

@@ -1,0 +1,98 @@
+/*
+ * Norbelath: rooted binary trees as texts, and which of them are one prune and regraft apart.
+ *
+ * Five calls over lent memory. They allocate nothing, keep nothing between calls and may be called from several threads
+ * at once; the table and graph calls use about 100 KB of stack. Any bytes may be given as a text: what is not as it
+ * should be is refused, with the reason and the place.
+ *
+ * A text is a pointer and its length in bytes; it needs no byte 0 at its end. A lent slice is a pointer and its length in
+ * elements. No pointer is NULL. The slices and numbers that a call may write overlap neither each other nor a text.
+ *
+ * The result is 0 where the call is accepted, and else the number of the refusal. Two lent numbers receive:
+ *
+ *                   *first                       *second
+ *   form, cut       bytes written                0
+ *   pair            1 for yes, 0 for no          0
+ *   table           bytes written                trees
+ *   graph           trees                        pairs
+ *   refused         which text: 0, or 1 for      the place: an offset in that text,
+ *                   the pair call's other        its length where it ends too soon
+ *
+ * An accepted call writes from the start of each lent slice on and changes nothing behind what it writes. A refusal
+ * changes no lent slice.
+ */
+#ifndef NORBELATH_H
+#define NORBELATH_H
+
+#include <stddef.h>
+#include <stdint.h>
+
+#ifdef __cplusplus
+extern "C" {
+#endif
+
+/* Limits: bytes of a text, trees of a table. */
+#define NORBELATH_MAX_TEXT 65535
+#define NORBELATH_MAX_TREES 160
+
+/* The least lengths of the lent slices, in elements. A shorter slice is refused, a longer one is used as far as needed. */
+#define NORBELATH_FORM_OUT 309
+#define NORBELATH_CUT_OUT 307
+#define NORBELATH_TABLE_TEXTS 49440
+#define NORBELATH_TABLE_ENDS 160
+#define NORBELATH_GRAPH_PAIRS 25440
+#define NORBELATH_GRAPH_COUNTS 160
+
+/* Results. The place of a refusal is given behind each; 7, 8 and 9 have place 0. */
+#define NORBELATH_ACCEPTED 0
+#define NORBELATH_WRONG_BYTE 1     /* a byte that cannot stand there, or the text ends too soon: that byte, or the length */
+#define NORBELATH_BAD_LABEL 2      /* a label with a leading zero or not 1 to 64: its first digit */
+#define NORBELATH_LABEL_AGAIN 3    /* a label that is already in this tree: its first digit */
+#define NORBELATH_TOO_DEEP 4       /* a bracket that opens while 63 are open: that bracket */
+#define NORBELATH_LABELS_DIFFER 5  /* labels other than the first tree's: the `;` of the tree that differs */
+#define NORBELATH_TOO_MANY_TREES 6 /* any byte but a blank after 160 trees: that byte */
+#define NORBELATH_SHORT_SLICE 7    /* a lent slice that is too short */
+#define NORBELATH_LONG_TEXT 8      /* a text above 65,535 bytes */
+#define NORBELATH_NO_SUCH_CUT 9    /* a cut number that the tree does not have */
+
+/* Form call: the canonical text of the one tree of a text, `;` included. */
+uint8_t norbelath_form(const uint8_t *text, size_t text_len,
+                       uint8_t *out, size_t out_len,
+                       uint64_t *first, uint64_t *second);
+
+/*
+ * Cut call: the forest text of a cut of the one tree of a text: what the cut leaves, a space, what it takes away and `;`.
+ * A tree of n leaves has the cuts 0 to 2n - 3, in the order in which its nodes begin in the canonical text, without the root.
+ */
+uint8_t norbelath_cut(const uint8_t *text, size_t text_len, uint64_t cut,
+                      uint8_t *out, size_t out_len,
+                      uint64_t *first, uint64_t *second);
+
+/* Pair call: whether one move makes the tree of `text` that of `other`, a different topology. */
+uint8_t norbelath_pair(const uint8_t *text, size_t text_len,
+                       const uint8_t *other, size_t other_len,
+                       uint64_t *first, uint64_t *second);
+
+/*
+ * Table call: the canonical texts of the trees of a text, one after another. ends[i] is the offset in them just behind the
+ * `;` of tree i.
+ */
+uint8_t norbelath_table(const uint8_t *text, size_t text_len,
+                        uint8_t *texts, size_t texts_len,
+                        uint32_t *ends, size_t ends_len,
+                        uint64_t *first, uint64_t *second);
+
+/*
+ * Graph call: the pairs of trees of a text that are one move apart, pair k as pairs[2k] < pairs[2k + 1], which are
+ * positions counted from 0, in order of the first and then of the second. counts[i] is the number of pairs that tree i is in.
+ */
+uint8_t norbelath_graph(const uint8_t *text, size_t text_len,
+                        uint16_t *pairs, size_t pairs_len,
+                        uint16_t *counts, size_t counts_len,
+                        uint64_t *first, uint64_t *second);
+
+#ifdef __cplusplus
+}
+#endif
+
+#endif

@@ -1,0 +1,721 @@
+#!/usr/bin/env python3
+"""Test inputs for the pair lister.
+
+    generate.py SEED COUNT OUTDIR
+
+writes COUNT files into OUTDIR, each one standard input for the pair lister.
+The same seed gives the same files, and a case depends on the seed and its own
+position only, so a larger COUNT keeps the earlier cases.  A file name holds
+the position and the kind of the case: `00017-one-move-apart.txt`.
+
+The first cases are the fixed ones (the same for every seed): the samples of
+document 01, the limits and their neighbours, and a text for each way a refusal
+can come about.  All others are drawn at random.
+
+Trees are nested tuples here: a leaf is its label, a fork is (first, second).
+A node is named by its path from the root, a tuple of 0 and 1.  Nothing is
+taken over from reference.py, so that moves made here also test the moves
+listed there.
+"""
+
+import os
+import random
+import sys
+
+BLANKS = (b" ", b"\t", b"\r", b"\n")
+MOST_BYTES = 65535
+MOST_TREES = 160
+MOST_OPEN = 63
+ALL_LABELS = tuple(range(1, 65))
+
+# Bytes that random damage prefers: tokens, digits, blanks, and bytes that are
+# easily taken for one of them.
+TELLING_BYTES = (
+    b"(),;0123456789 \t\r\n"
+    b"\x00\x0b\x0c\x1f!/:[]{}.-+'_#aAxX\x7f\x80\x85\xa0\xb2\xff"
+)
+
+# Labels out of range.  Among them are numbers that are 1 or 64 again when
+# taken modulo 2^8, 2^16, 2^32 or 2^64.
+BAD_LABELS = (
+    b"0", b"00", b"01", b"064", b"0000000001", b"65", b"66", b"99", b"100",
+    b"101", b"255", b"256", b"257", b"320", b"640", b"65537", b"4294967297",
+    b"4294967360", b"18446744073709551617", b"18446744073709551680",
+    b"340282366920938463463374607431768211457",
+)
+
+
+# Trees and moves
+
+
+def is_leaf(tree):
+    """Whether the tree is a single leaf."""
+    return not isinstance(tree, tuple)
+
+
+def paths(tree):
+    """All nodes' paths, the root's empty one first."""
+    if is_leaf(tree):
+        return [()]
+    below = [(side,) + path for side in (0, 1) for path in paths(tree[side])]
+    return [()] + below
+
+
+def subtree(tree, path):
+    """The subtree at a path."""
+    for side in path:
+        tree = tree[side]
+    return tree
+
+
+def replaced(tree, path, new):
+    """The tree with the subtree at a path replaced by a new one."""
+    if not path:
+        return new
+    grown = replaced(tree[path[0]], path[1:], new)
+    return (grown, tree[1]) if path[0] == 0 else (tree[0], grown)
+
+
+def move(tree, source, target):
+    """Prune at `source` (not the root), regraft at `target`.
+
+    `target` is a path in the remainder; the new fork stands above the node
+    there.
+    """
+    parent, side = source[:-1], source[-1]
+    pruned = subtree(tree, source)
+    sibling = subtree(tree, parent + (1 - side,))
+    remainder = replaced(tree, parent, sibling)
+    return replaced(remainder, target, (subtree(remainder, target), pruned))
+
+
+def remainder_paths(tree, source):
+    """The paths of the remainder's nodes when pruning at `source`."""
+    parent, side = source[:-1], source[-1]
+    return paths(replaced(tree, parent, subtree(tree, parent + (1 - side,))))
+
+
+def all_moves(tree):
+    """The results of all moves on a tree, as a list."""
+    return [
+        move(tree, source, target)
+        for source in paths(tree)[1:]
+        for target in remainder_paths(tree, source)
+    ]
+
+
+def shape(tree):
+    """A value that is equal for equal topologies: children unordered."""
+    if is_leaf(tree):
+        return tree
+    return frozenset((shape(tree[0]), shape(tree[1])))
+
+
+def random_move(rng, tree):
+    """The result of one random move; a single leaf stays as it is."""
+    sources = paths(tree)[1:]
+    if not sources:
+        return tree
+    source = rng.choice(sources)
+    return move(tree, source, rng.choice(remainder_paths(tree, source)))
+
+
+def changing_move(rng, tree):
+    """A random move that changes the topology; needs three leaves."""
+    while True:
+        moved = random_move(rng, tree)
+        if shape(moved) != shape(tree):
+            return moved
+
+
+def two_moves(rng, tree):
+    """A tree two moves from the given one and no fewer; needs four leaves."""
+    near = {shape(moved) for moved in all_moves(tree)}
+    near.add(shape(tree))
+    while True:
+        moved = random_move(rng, random_move(rng, tree))
+        if shape(moved) not in near:
+            return moved
+
+
+def random_tree(rng, labels):
+    """A random tree on these labels, by one of three ways of growing."""
+    labels = rng.sample(labels, len(labels))
+    way = rng.randrange(3)
+    if way == 0:
+        return grown_on_edges(rng, labels)
+    if way == 1:
+        return joined_at_random(rng, labels)
+    return comb(rng, labels)
+
+
+def grown_on_edges(rng, labels):
+    """Each further leaf hangs on a random edge or above the root."""
+    tree = labels[0]
+    for label in labels[1:]:
+        path = rng.choice(paths(tree))
+        tree = replaced(tree, path, (subtree(tree, path), label))
+    return swapped(rng, tree)
+
+
+def joined_at_random(rng, labels):
+    """Random pairs are joined until one tree is left."""
+    trees = list(labels)
+    while len(trees) > 1:
+        rng.shuffle(trees)
+        trees.append((trees.pop(), trees.pop()))
+    return trees[0]
+
+
+def comb(rng, labels):
+    """Every fork has a leaf as a child, on a random side."""
+    tree = labels[0]
+    for label in labels[1:]:
+        tree = (tree, label) if rng.random() < 0.5 else (label, tree)
+    return tree
+
+
+def left_comb(labels):
+    """A comb whose brackets all stand at the start of its text."""
+    tree = labels[0]
+    for label in labels[1:]:
+        tree = (tree, label)
+    return tree
+
+
+def right_comb(labels):
+    """A comb whose brackets all stand at the end of its text."""
+    tree = labels[-1]
+    for label in reversed(labels[:-1]):
+        tree = (label, tree)
+    return tree
+
+
+def swapped(rng, tree):
+    """The same topology with children swapped at random forks."""
+    if is_leaf(tree):
+        return tree
+    first, second = swapped(rng, tree[0]), swapped(rng, tree[1])
+    return (first, second) if rng.random() < 0.5 else (second, first)
+
+
+def random_labels(rng, size):
+    """A label set of this size: consecutive, or scattered over 1 to 64."""
+    way = rng.randrange(4)
+    if way == 0:
+        return list(range(1, size + 1))
+    if way == 1:
+        # Around a change in the number of digits, or at the upper end.
+        first = min(rng.choice((7, 8, 9, 57, 65 - size)), 65 - size)
+        return list(range(first, first + size))
+    return rng.sample(ALL_LABELS, size)
+
+
+# Texts
+
+
+def tokens(tree):
+    """The tokens of a node's text."""
+    if is_leaf(tree):
+        return [b"%d" % tree]
+    return [b"("] + tokens(tree[0]) + [b","] + tokens(tree[1]) + [b")"]
+
+
+def table_tokens(trees):
+    """The tokens of a table."""
+    return [token for tree in trees for token in tokens(tree) + [b";"]]
+
+
+def plain(trees):
+    """A table without a blank."""
+    return b"".join(table_tokens(trees))
+
+
+def some_blanks(rng):
+    """One to four blanks."""
+    return b"".join(rng.choice(BLANKS) for _ in range(rng.randint(1, 4)))
+
+
+def with_blanks(rng, table, rate):
+    """The tokens with blanks before some of them and perhaps at the end."""
+    pieces = []
+    for token in table:
+        if rng.random() < rate:
+            pieces.append(some_blanks(rng))
+        pieces.append(token)
+    if rng.random() < 0.5:
+        pieces.append(some_blanks(rng))
+    return b"".join(pieces)
+
+
+def written(rng, trees):
+    """A table in one of several usual or unusual layouts."""
+    way = rng.randrange(5)
+    if way == 0:
+        return plain(trees)
+    if way == 1:
+        return b"".join(plain([tree]) + b"\n" for tree in trees)
+    if way == 2:
+        return b"\r\n".join(plain([tree]) for tree in trees)
+    return with_blanks(rng, table_tokens(trees), rng.choice((0.05, 0.3, 1.0)))
+
+
+def padded(rng, text, length):
+    """The text with blanks before and after it, up to a length."""
+    blanks = b"".join(rng.choices(BLANKS, k=length - len(text)))
+    before = rng.randint(0, len(blanks))
+    return blanks[:before] + text + blanks[before:]
+
+
+# Random accepted tables
+
+
+def random_table(rng):
+    """0 to 12 random trees of 1 to 8 leaves."""
+    labels = random_labels(rng, rng.randint(1, 8))
+    return [random_tree(rng, labels) for _ in range(rng.randint(0, 12))]
+
+
+def chain_table(rng):
+    """Trees made by moves from earlier ones, with copies among them."""
+    trees = [random_tree(rng, random_labels(rng, rng.randint(2, 8)))]
+    from_last = rng.random() < 0.5
+    for _ in range(rng.randint(1, 11)):
+        base = trees[-1] if from_last else rng.choice(trees)
+        way = rng.random()
+        if way < 0.7:
+            base = random_move(rng, base)
+        if way > 0.4:
+            base = swapped(rng, base)
+        trees.append(base)
+    return trees
+
+
+def copies_table(rng):
+    """One topology several times, children swapped or not; a few others."""
+    tree = random_tree(rng, random_labels(rng, rng.randint(1, 8)))
+    trees = []
+    for _ in range(rng.randint(2, 12)):
+        way = rng.random()
+        if way < 0.4:
+            trees.append(tree)
+        elif way < 0.8:
+            trees.append(swapped(rng, tree))
+        else:
+            trees.append(random_move(rng, tree))
+    return trees
+
+
+def one_move_table(rng):
+    """Two trees exactly one move apart."""
+    tree = random_tree(rng, random_labels(rng, rng.randint(3, 8)))
+    return [tree, swapped(rng, changing_move(rng, tree))]
+
+
+def two_moves_table(rng):
+    """Two trees exactly two moves apart."""
+    tree = random_tree(rng, random_labels(rng, rng.randint(4, 8)))
+    return [tree, swapped(rng, two_moves(rng, tree))]
+
+
+def large_table(rng):
+    """Two or three trees of 9 to 64 leaves, a move or two from each other."""
+    size = rng.choice((9, 12, 16, 24, 32, 33, 48, 63, 64))
+    trees = [random_tree(rng, random_labels(rng, size))]
+    for _ in range(rng.randint(1, 2)):
+        moved = random_move(rng, trees[-1])
+        if rng.random() < 0.3:
+            moved = random_move(rng, moved)
+        trees.append(swapped(rng, moved))
+    return trees
+
+
+def crowd(rng, count):
+    """Exactly `count` trees of 1 to 5 leaves."""
+    labels = random_labels(rng, rng.randint(1, 5))
+    return [random_tree(rng, labels) for _ in range(count)]
+
+
+def crowded_table(rng):
+    """13 to 160 trees, the limit more often than the others."""
+    return crowd(rng, rng.choice((rng.randint(13, MOST_TREES), MOST_TREES - 1, MOST_TREES)))
+
+
+def usual_table(rng):
+    """Any table of the small kinds that holds at least one tree."""
+    while True:
+        trees = rng.choice((random_table, chain_table, copies_table))(rng)
+        if trees:
+            return trees
+
+
+# Random damage
+
+
+def damaged_bytes(rng):
+    """One to three bytes changed, left out, or put in."""
+    text = bytearray(written(rng, usual_table(rng)))
+    for _ in range(rng.randint(1, 3)):
+        damage_byte(rng, text)
+    return bytes(text)
+
+
+def damage_byte(rng, text):
+    """One such damage, in place."""
+    way = rng.randrange(4)
+    place = rng.randint(0, len(text))
+    byte = rng.choice(TELLING_BYTES) if rng.random() < 0.8 else rng.randrange(256)
+    if way == 0:
+        text.insert(place, byte)
+    elif text:
+        place = min(place, len(text) - 1)
+        if way == 1:
+            del text[place]
+        else:
+            text[place] = byte
+
+
+def damaged_tokens(rng):
+    """A token left out, doubled, exchanged with the next, or replaced."""
+    table = table_tokens(usual_table(rng))
+    for _ in range(rng.randint(1, 2)):
+        damage_token(rng, table)
+    return with_blanks(rng, table, rng.choice((0.0, 0.1, 0.5)))
+
+
+def damage_token(rng, table):
+    """One such damage, in place."""
+    place = rng.randrange(len(table))
+    way = rng.randrange(4)
+    if way == 0 and len(table) > 1:
+        del table[place]
+    elif way == 1:
+        table.insert(place, table[place])
+    elif way == 2 and place + 1 < len(table):
+        table[place], table[place + 1] = table[place + 1], table[place]
+    else:
+        table[place] = rng.choice((b"(", b")", b",", b";", b"1", b"9", b"64", b"65", b"0"))
+
+
+def damaged_label(rng):
+    """A label replaced by one that is out of range or has a leading zero."""
+    table = table_tokens(usual_table(rng))
+    place = rng.choice([i for i, token in enumerate(table) if token.isdigit()])
+    way = rng.randrange(4)
+    if way == 0:
+        table[place] = b"0" * rng.randint(1, 3) + table[place]
+    elif way == 1:
+        table[place] = bytes(rng.choices(b"0123456789", k=rng.randint(3, 5000)))
+    else:
+        table[place] = rng.choice(BAD_LABELS)
+    text = with_blanks(rng, table, rng.choice((0.0, 0.2)))
+    return text + b";x" if rng.random() < 0.1 else text
+
+
+def repeated_label(rng):
+    """A label replaced by another label of the same tree."""
+    trees = usual_table(rng)
+    while is_leaf(trees[0]):
+        trees = usual_table(rng)
+    table = table_tokens(trees)
+    places = [i for i, token in enumerate(table) if token.isdigit()]
+    size = len(places) // len(trees)
+    start = size * rng.randrange(len(trees))
+    victim, donor = rng.sample(places[start:start + size], 2)
+    table[victim] = table[donor]
+    return with_blanks(rng, table, rng.choice((0.0, 0.2)))
+
+
+def other_labels(rng):
+    """A tree whose label set differs from the first tree's."""
+    trees = usual_table(rng)
+    labels = sorted(int(token) for token in tokens(trees[0]) if token.isdigit())
+    odd_one = random_tree(rng, other_label_set(rng, labels))
+    trees.insert(rng.randint(1, len(trees)), odd_one)
+    text = written(rng, trees)
+    # Sometimes the fault of a later byte, which must not be seen first.
+    return text + rng.choice((b"", b"", b"x", b"(", b"65", b"\x00"))
+
+
+def other_label_set(rng, labels):
+    """A label set near the given one but not equal to it."""
+    unused = [label for label in ALL_LABELS if label not in labels]
+    way = rng.randrange(3)
+    if way == 0 and len(labels) > 1:
+        return rng.sample(labels, len(labels) - 1)
+    if way == 1:
+        return labels + [rng.choice(unused)]
+    kept = rng.sample(labels, len(labels) - 1)
+    return kept + [rng.choice(unused)]
+
+
+def truncated(rng):
+    """A table cut off at a random place."""
+    text = written(rng, usual_table(rng))
+    return text[:rng.randrange(len(text) + 1)]
+
+
+def too_many(rng):
+    """160 trees and then something more than blanks."""
+    trees = crowd(rng, MOST_TREES)
+    extra = rng.choice((
+        plain(trees[:1]), plain(trees[:3]), b"x", b";", b")", b",", b"(", b"0",
+        b"65", b"1", b"\x00", b"\xff", b"\x0b", b"(1,1);", b"((((",
+    ))
+    blanks = some_blanks(rng) if rng.random() < 0.5 else b""
+    return written(rng, trees) + blanks + extra
+
+
+def too_deep(rng):
+    """64 brackets open at once, in a first or a later tree."""
+    labels = rng.sample(ALL_LABELS, 64)
+    start, used = [], 0
+    for _ in range(MOST_OPEN + rng.randint(1, 3)):
+        # A leaf on the left of some forks; its label is spent.
+        if start and used < 60 and rng.random() < 0.4:
+            start += [b"%d" % labels[used], b","]
+            used += 1
+        start.append(b"(")
+    before = []
+    if rng.random() < 0.5:
+        before = table_tokens([random_tree(rng, ALL_LABELS) for _ in range(rng.randint(1, 3))])
+    text = with_blanks(rng, before + start, rng.choice((0.0, 0.1)))
+    return text + rng.choice((b"", b"1", b"x", b"0", b")"))
+
+
+def deep_comb(rng):
+    """63 brackets open at once and 64 leaves: accepted."""
+    labels = rng.sample(ALL_LABELS, 64)
+    tree = rng.choice((left_comb(labels), right_comb(labels), comb(rng, labels)))
+    copies = [swapped(rng, tree)] if rng.random() < 0.3 else []
+    return written(rng, [tree] + copies)
+
+
+def long_text(rng):
+    """A text of 65,535 or 65,536 bytes, or of more."""
+    length = rng.choice((MOST_BYTES, MOST_BYTES, MOST_BYTES + 1, MOST_BYTES + 1, 70000, 131072))
+    way = rng.randrange(4)
+    if way == 0:
+        return padded(rng, plain(crowd(rng, rng.randint(0, MOST_TREES))), length)
+    if way == 1:
+        return padded(rng, damaged_bytes(rng), length)
+    if way == 2:
+        return b"(1," + bytes(rng.choices(b"0123456789", k=length - 3))
+    return bytes(rng.choices(TELLING_BYTES, k=length))
+
+
+def noise(rng):
+    """Bytes at random, mostly tokens."""
+    alphabet = rng.choice((b"(),;12", b"(),;0123456789 \n", TELLING_BYTES, bytes(range(256))))
+    return bytes(rng.choices(alphabet, k=rng.randint(0, 40)))
+
+
+def accepted(make):
+    """Turn a maker of tables into a maker of texts."""
+    return lambda rng: written(rng, make(rng))
+
+
+# Kind, share among the random cases, maker.
+KINDS = (
+    ("random-table", 18, accepted(random_table)),
+    ("chain", 20, accepted(chain_table)),
+    ("copies", 8, accepted(copies_table)),
+    ("one-move-apart", 8, accepted(one_move_table)),
+    ("two-moves-apart", 6, accepted(two_moves_table)),
+    ("large", 1, accepted(large_table)),
+    ("crowd", 1, accepted(crowded_table)),
+    ("deep-comb", 1, deep_comb),
+    ("damaged-bytes", 12, damaged_bytes),
+    ("damaged-tokens", 8, damaged_tokens),
+    ("damaged-label", 5, damaged_label),
+    ("repeated-label", 4, repeated_label),
+    ("other-labels", 5, other_labels),
+    ("truncated", 4, truncated),
+    ("too-many", 1, too_many),
+    ("too-deep", 2, too_deep),
+    ("long-text", 1, long_text),
+    ("noise", 3, noise),
+)
+
+
+# Fixed cases
+
+
+def sample_cases():
+    """The samples of document 01 that the pair lister can be given."""
+    texts = (
+        b"((2,1),3);\n(3,(2,1));\n(1,(2,3));\n((1,3),2);\n",
+        b"(3,(2,1));", b"(10,2);", b" 7 ;", b"(1,2,3);", b"(1,2)", b"(1,2);x",
+        b"(1,1);", b"(1,64);", b"(1,65);", b"", b"(1,2);(1,3);",
+        b"((1,2),(3,4));",
+        b"(((1,2),3),4);((1,2),(3,4));",
+        b"(((1,2),3),4);(((3,4),1),2);",
+        b"((((4,5),1),2),3);((((1,2),3),4),5);",
+    )
+    return [("sample", text) for text in texts]
+
+
+def byte_cases():
+    """Bytes in wrong places, ends in wrong places, and odd blanks."""
+    texts = [
+        b" ", b"\t", b"\r", b"\n", b" \t\r\n\n", b";", b",", b")", b"(", b"()",
+        b"(,)", b"(1)", b"(1);", b"(1,);", b"(,1);", b"(1,2));", b"((1,2);",
+        b"(1;2);", b"1,2;", b"1;;", b"(1,2);;", b"(1 2,3);", b"(1,2 3);",
+        b"(1,2)3;", b"(1,2)0;", b"(1,2)65;", b"1 1;", b"1 0;", b"(1(2,3));",
+        b"(1,2)(3,4);", b"((1,2)(3,4));", b"(1,(2,3)", b"(1,(2,3) ", b"1", b"1 \n",
+        b"6", b"(1,6", b"(1,", b"(1, ", b"(1,2);(", b"(1,2); 1", b"(1,2);1",
+        b"[1,2];", b"{1,2};", b"(1.2);", b"(+1,2);", b"(-1,2);", b"(1,2):1;",
+        b"(1:0.1,2:0.1);", b"(a,b);", b"('1',2);", b"(1,2)[c];", b"#\n1;",
+        b"\xef\xbb\xbf1;", b"1;\x00", b"\x001;", b"(1\x00,2);", b"1;\x1a", b"1\xff;",
+        b"1;\x0b", b"1;\x0c", b"1\xa0;", b"\x851;", b"1;\xe2\x80\x83",
+        b"\xb2;", b"\xd9\xa1;", b"/;", b":;", b"(1,2);\n(2,1)\n", b"1;\n1;\n1\n",
+    ]
+    return [("byte", text) for text in texts]
+
+
+def label_cases():
+    """Labels out of range, with leading zeros, repeated, or cut off."""
+    texts = [b"(1,%s);" % bad for bad in BAD_LABELS]
+    texts += [b"%s;" % bad for bad in BAD_LABELS[:8]]
+    texts += [b"%d;" % good for good in (1, 9, 10, 11, 32, 33, 63, 64)]
+    texts += [
+        b"(1,65", b"(1,1", b"(1,10", b"(10,1", b"0", b"65", b"(1,65x", b"(1,1x", b"(1,01",
+        b"(1,1)65;", b"(01,01);", b"(64,64);", b"(1,064);", b"(6,64);",
+        b"((1,2),(3,1));", b"((1,2),(2,65));", b"((1,2),(65,2));",
+        b"(1,2);(1,1);", b"(1,2);(2,65);", b"(1,2);(3,3);", b"(1,2);(3,03);",
+        b"(1," + b"9" * 5000 + b");", b"(1," + b"0" * 5000 + b"2);", b"1" * 65535,
+        b"1;" + b"0" * 65533, b"(1," + b"1" * 65532, b"(1,2" * 20,
+    ]
+    return [("label", text) for text in texts]
+
+
+def label_set_cases():
+    """Label sets that differ from the first tree's, and what goes before."""
+    texts = (
+        b"1;2;", b"1;1;2;", b"(1,2);1;", b"1;(1,2);", b"(1,2);(1,3)x", b"(1,2);(1,3)",
+        b"(1,2);(1,3);x", b"(1,2);(1,3) ;", b"(1,64);(1,63);", b"(32,33);(32,64);",
+        b"(1,2);(2,1);(3,4);(1,1);", b"(1,2);(2,1);(1,1);(3,4);", b"(1,2);((1,2),3);",
+        b"((1,2),3);(1,2);", b"((1,2),3);((1,2),4);", b"(1,2);(1,3)\n\t;\n(0,0);",
+    )
+    return [("label-set", text) for text in texts]
+
+
+def depth_cases():
+    """At and around 63 open brackets."""
+    labels = list(ALL_LABELS)
+    left, right = plain([left_comb(labels)]), plain([right_comb(labels)])
+    opened = b"(" * MOST_OPEN
+    right_open = b"".join(b"(%d," % label for label in range(1, MOST_OPEN + 1))
+    texts = [
+        left, right, left + right, b" ".join(bytes((byte,)) for byte in opened) + left[MOST_OPEN:],
+        plain([left_comb(labels[::-1])]), plain([right_comb(labels[::-1])]),
+        opened, opened + b"(", opened + b" (", opened + b"((", b"(" + left, b"(" * 65535,
+        b"(" * 65536, right_open, right_open + b"(", right_open + b"\n(", right_open + b"64(",
+        right_open + b"63", right_open + b"65", right_open + b"0", right_open + b")",
+        # No node may begin at the last bracket, so these are refusal 1.
+        opened + b"1(", opened + b"1 (2", opened + b"1,2(", opened + b"1,2)(",
+        # A bracket closes, and the 63rd opens once more; then one too many.
+        b"(" + left[1:-1] + b"(;", opened[1:] + b"(1,2),(3,4))", opened[1:] + b"(1,2),((",
+        opened[1:] + b"(1,2),(3,4)),(5,((",
+        left + opened, left + opened + b"(", b"1;" + opened + b"(",
+    ]
+    return [("depth", text) for text in texts]
+
+
+def count_cases():
+    """At and around 160 trees."""
+    full = b"(1,2);" * MOST_TREES
+    texts = [full, full + b" \t\r\n", full + b"(1,2);", full + b"\n (2,1);", b"1;" * 161, b"1;" * 1000]
+    texts += [full + extra for extra in (
+        b"x", b" x", b"(", b")", b",", b";", b"1", b"0", b"65", b"\x00", b"\xff",
+        b"\x0b", b"(1,1);", b"(1,3);", b"(" * 64,
+    )]
+    fewer = full[6:]
+    texts += [fewer, fewer + b"(1,3);", fewer + b"(1,3);x", fewer + b"(1,2)", fewer + b"x",
+              fewer + b"(1,1);", fewer + b"(1,65);", fewer + b"(2,1);;"]
+    three = b"((1,2),3);((1,3),2);(1,(2,3));"
+    texts += [three * 53, three * 53 + b"((3,2),1);", three * 54]
+    # The longest canonical text 160 times, alone and with one differing tree.
+    longest = plain([left_comb(list(ALL_LABELS))])
+    moved = plain([move(left_comb(list(ALL_LABELS)), (1,), (0, 0, 0))])
+    texts += [longest * MOST_TREES, longest * 159 + moved, longest * MOST_TREES + b"x"]
+    return [("count", text) for text in texts]
+
+
+def length_cases():
+    """At and around 65,535 bytes."""
+    tree = b"((1,2),3);"
+    texts = [
+        b" " * 65534, b" " * 65535, b" " * 65536, b"\n" * 65537, b"x" * 65535, b"x" * 65536,
+        b"\x00" * 65536, tree + b" " * (65535 - len(tree)), tree + b" " * (65536 - len(tree)),
+        b" " * (65535 - len(tree)) + tree, b" " * (65536 - len(tree)) + tree,
+        tree + b" " * (65534 - len(tree)) + b"x", b" " * 65534 + b"x", b" " * 65534 + b"(",
+        b"(1," + b" " * 65532, tree * 6553, tree * 6554, tree * 160 + b" " * 63935,
+        tree * 160 + b" " * 63934 + b"x", tree * 160 + b" " * 63936, b"(" * 200000,
+    ]
+    return [("length", text) for text in texts]
+
+
+def all_small_trees_cases():
+    """All topologies of 3 and of 4 leaves in one table each."""
+    cases = []
+    for labels in ((1, 2, 3), (64, 10, 2), (1, 2, 3, 4), (9, 10, 33, 64)):
+        trees = [labels[0]]
+        for label in labels[1:]:
+            trees = [
+                replaced(tree, path, (subtree(tree, path), label))
+                for tree in trees for path in paths(tree)
+            ]
+        cases.append(("all-topologies", plain(trees)))
+    return cases
+
+
+def fixed_cases():
+    """All fixed cases as (kind, text)."""
+    return (
+        sample_cases() + byte_cases() + label_cases() + label_set_cases()
+        + depth_cases() + count_cases() + length_cases() + all_small_trees_cases()
+    )
+
+
+# All cases
+
+
+def random_case(seed, position):
+    """The random case at a position, as (kind, text)."""
+    rng = random.Random("%d case %d" % (seed, position))
+    ((kind, _, make),) = rng.choices(KINDS, weights=[share for _, share, _ in KINDS])
+    return kind, make(rng)
+
+
+def cases(seed, count):
+    """Yield (position, kind, text) for the positions below `count`."""
+    fixed = fixed_cases()
+    for position in range(count):
+        if position < len(fixed):
+            kind, text = fixed[position]
+        else:
+            kind, text = random_case(seed, position)
+        yield position, kind, text
+
+
+def file_name(position, kind):
+    """The name of a case's file."""
+    return "%05d-%s.txt" % (position, kind)
+
+
+def main(arguments):
+    """Write the case files; gives the exit status."""
+    if len(arguments) != 3:
+        print("usage: generate.py SEED COUNT OUTDIR", file=sys.stderr)
+        return 2
+    seed, count, directory = int(arguments[0]), int(arguments[1]), arguments[2]
+    os.makedirs(directory, exist_ok=True)
+    for position, kind, text in cases(seed, count):
+        with open(os.path.join(directory, file_name(position, kind)), "wb") as file:
+            file.write(text)
+    return 0
+
+
+if __name__ == "__main__":
+    sys.exit(main(sys.argv[1:]))

@@ -1,0 +1,431 @@
+#!/usr/bin/env python3
+"""Reference program for the pair lister, written from document 01 alone.
+
+As a command it reads a table of trees from standard input and writes the
+pair lister's sheet to standard output.  As a module it offers the five calls
+
+    form(text)            the canonical text (bytes)
+    cut(text, number)     the forest text of that cut (bytes)
+    pair(text0, text1)    True or False: one move apart
+    table(text)           Table(texts, ends)
+    graph(text)           Graph(pairs, counts)
+
+and `sheet(text)`, the bytes the command prints.  Texts are bytes.  A call
+that refuses returns a Refusal(number, text, place) instead; it is a tuple and
+equals the plain tuple of the same three numbers.
+
+How pairs are decided.  A tree's topology is the frozenset of its clades, and
+a clade is a frozenset of labels.  All trees that one move makes from the first
+tree are gone through: every node but the root is pruned, the remainder is
+closed up, and the pruned subtree is hung on every edge of the remainder and
+above its root.  Two trees are one move apart when their topologies differ and
+the second's topology is among those of the results.  No forests are compared
+anywhere, so Lemma 2.2 of document 001 is not used.
+
+The values here are returned, not written into lent memory, so refusal 7 (a
+lent slice too short) does not arise.
+"""
+
+import functools
+import sys
+from typing import NamedTuple
+
+MOST_BYTES = 65535
+MOST_TREES = 160
+MOST_OPEN = 63
+LARGEST_LABEL = 64
+
+BLANKS = b" \t\r\n"
+DIGITS = b"0123456789"
+
+# The refusal numbers of document 01 that can arise here.
+BAD_BYTE = 1
+BAD_LABEL = 2
+REPEATED_LABEL = 3
+TOO_DEEP = 4
+OTHER_LABELS = 5
+TOO_MANY_TREES = 6
+TEXT_TOO_LONG = 8
+NO_SUCH_CUT = 9
+
+
+class Refusal(NamedTuple):
+    """A refused call: the number, which text (0 or 1), and the place."""
+
+    number: int
+    text: int
+    place: int
+
+
+class Table(NamedTuple):
+    """Canonical texts, and for each the offset just past its `;` when the
+    texts are written one after another."""
+
+    texts: list
+    ends: list
+
+
+class Graph(NamedTuple):
+    """Pairs (i, j) with i < j in order of i, then j; neighbours per tree."""
+
+    pairs: list
+    counts: list
+
+
+class Refused(Exception):
+    """Ends a call from inside; carries the Refusal to be returned."""
+
+    def __init__(self, number, text, place):
+        """Keep the three numbers as a Refusal."""
+        super().__init__(number, text, place)
+        self.refusal = Refusal(number, text, place)
+
+
+def returns_refusal(call):
+    """Make a call return its Refusal where its body raises Refused."""
+
+    @functools.wraps(call)
+    def wrapper(*arguments):
+        """Run the call; a refusal becomes its value."""
+        try:
+            return call(*arguments)
+        except Refused as refused:
+            return refused.refusal
+
+    return wrapper
+
+
+# Trees
+
+
+class Tree:
+    """A rooted binary tree, never changed once made.
+
+    children  () for a leaf, (Tree, Tree) for a fork
+    clade     frozenset of the labels at and below the root
+    clades    frozenset of the clades of all nodes: the topology
+    """
+
+    __slots__ = ("children", "clade", "clades")
+
+    def __init__(self, children, clade, clades):
+        """Use leaf() and fork() instead; they work out clade and clades."""
+        self.children = children
+        self.clade = clade
+        self.clades = clades
+
+
+def leaf(label):
+    """The tree that is one leaf."""
+    clade = frozenset((label,))
+    return Tree((), clade, frozenset((clade,)))
+
+
+def fork(first, second):
+    """The tree whose root has these two children."""
+    clade = first.clade | second.clade
+    return Tree((first, second), clade, first.clades.union(second.clades, (clade,)))
+
+
+def canonical(tree):
+    """The same topology with the child of smaller least label first."""
+    if not tree.children:
+        return tree
+    first, second = sorted(tree.children, key=lambda child: min(child.clade))
+    return fork(canonical(first), canonical(second))
+
+
+def node_text(tree):
+    """The text of a tree as its children stand, without `;`."""
+    if not tree.children:
+        (label,) = tree.clade
+        return b"%d" % label
+    first, second = tree.children
+    return b"(" + node_text(first) + b"," + node_text(second) + b")"
+
+
+def canonical_text(tree):
+    """The canonical text, `;` included."""
+    return node_text(canonical(tree)) + b";"
+
+
+# Moves
+
+
+def prunings(tree):
+    """Yield (remainder, pruned) for each node but the root.
+
+    The order is that in which the nodes begin in the tree's text, so on a
+    canonical tree the position in this order is the cut number.  Where a
+    child of the root is pruned, the remainder is its sibling.
+    """
+    if not tree.children:
+        return
+    first, second = tree.children
+    yield second, first
+    for remainder, pruned in prunings(first):
+        yield fork(remainder, second), pruned
+    yield first, second
+    for remainder, pruned in prunings(second):
+        yield fork(first, remainder), pruned
+
+
+def regrafts(node, pruned, clades):
+    """Yield the result's topology for each place in the subtree at `node`.
+
+    The places are above `node` and above each node below it.  Above a node
+    means on the edge that leads to it, or above the remainder's root.
+
+    `clades` holds the remainder's clades and the pruned subtree's, where every
+    node that will stand above the new fork has taken in the pruned labels.
+    """
+    joined = node.clade | pruned.clade
+    # Here `joined` is the new fork's clade, and `node` keeps its own.
+    hung_above = clades | {joined}
+    yield hung_above
+    if node.children:
+        # Further down, `joined` is the clade of `node`, which loses its own.
+        hung_below = hung_above - {node.clade}
+        for child in node.children:
+            yield from regrafts(child, pruned, hung_below)
+
+
+def moves(tree):
+    """Yield the topology of every move's result, the tree's own included."""
+    for remainder, pruned in prunings(tree):
+        yield from regrafts(remainder, pruned, remainder.clades | pruned.clades)
+
+
+def reached(tree):
+    """The set of topologies that one move makes from the tree."""
+    return set(moves(tree))
+
+
+def one_move_apart(first, second):
+    """Whether topologies differ and a move leads from first to second."""
+    return first.clades != second.clades and second.clades in reached(first)
+
+
+# Reading
+
+
+class Reader:
+    """Reads tree texts from left to right and refuses at the first fault."""
+
+    def __init__(self, text, which):
+        """Begin at place 0; `which` is 0 or 1, for the refusal."""
+        self.text = text
+        self.which = which
+        self.place = 0
+
+    def refuse(self, number, place):
+        """End the call with this refusal."""
+        raise Refused(number, self.which, place)
+
+    def byte_here(self):
+        """The byte at the place as bytes of length 1; b"" at the end."""
+        return self.text[self.place:self.place + 1]
+
+    def next_token_byte(self):
+        """Go past blanks, then give the byte there, b"" at the end."""
+        while self.byte_here() and self.byte_here() in BLANKS:
+            self.place += 1
+        return self.byte_here()
+
+    def take(self, token):
+        """Go past this one-byte token; anything else there is refusal 1."""
+        if self.next_token_byte() != token:
+            self.refuse(BAD_BYTE, self.place)
+        self.place += 1
+
+    def tree(self):
+        """Read a node and `;`.  Gives the tree and the place of the `;`."""
+        labels_so_far = set()
+        tree = self.node(0, labels_so_far)
+        self.take(b";")
+        return tree, self.place - 1
+
+    def node(self, open_brackets, labels_so_far):
+        """Read a label or a fork; any other byte is refusal 1."""
+        byte = self.next_token_byte()
+        if byte == b"(":
+            return self.fork(open_brackets, labels_so_far)
+        if byte and byte in DIGITS:
+            return self.label(labels_so_far)
+        return self.refuse(BAD_BYTE, self.place)
+
+    def fork(self, open_brackets, labels_so_far):
+        """Read `(` node `,` node `)`; the place is at the `(`."""
+        if open_brackets == MOST_OPEN:
+            self.refuse(TOO_DEEP, self.place)
+        self.take(b"(")
+        first = self.node(open_brackets + 1, labels_so_far)
+        self.take(b",")
+        second = self.node(open_brackets + 1, labels_so_far)
+        self.take(b")")
+        return fork(first, second)
+
+    def label(self, labels_so_far):
+        """Read the longest run of digits; the place is at the first digit."""
+        start = self.place
+        while self.byte_here() and self.byte_here() in DIGITS:
+            self.place += 1
+        digits = self.text[start:self.place]
+        # The length is looked at before the value, because the run may be
+        # longer than Python turns into a number.
+        too_long = len(digits) > len(str(LARGEST_LABEL))
+        if digits.startswith(b"0") or too_long or int(digits) > LARGEST_LABEL:
+            self.refuse(BAD_LABEL, start)
+        if int(digits) in labels_so_far:
+            self.refuse(REPEATED_LABEL, start)
+        labels_so_far.add(int(digits))
+        return leaf(int(digits))
+
+
+def refuse_long_text(text, which):
+    """Refusal 8, tried before any byte is looked at."""
+    if len(text) > MOST_BYTES:
+        raise Refused(TEXT_TOO_LONG, which, 0)
+
+
+def read_one(text, which):
+    """Read a text of exactly one tree.  Gives it and the place of its `;`."""
+    reader = Reader(text, which)
+    tree, semicolon = reader.tree()
+    if reader.next_token_byte():
+        reader.refuse(BAD_BYTE, reader.place)
+    return tree, semicolon
+
+
+def read_table(text):
+    """Read a text of 0 to 160 trees on one label set into a list."""
+    refuse_long_text(text, 0)
+    reader = Reader(text, 0)
+    trees = []
+    while reader.next_token_byte():
+        if len(trees) == MOST_TREES:
+            reader.refuse(TOO_MANY_TREES, reader.place)
+        tree, semicolon = reader.tree()
+        if trees and tree.clade != trees[0].clade:
+            reader.refuse(OTHER_LABELS, semicolon)
+        trees.append(tree)
+    return trees
+
+
+# The calls
+
+
+@returns_refusal
+def form(text):
+    """The canonical text of a text with exactly one tree."""
+    refuse_long_text(text, 0)
+    tree, _ = read_one(text, 0)
+    return canonical_text(tree)
+
+
+@returns_refusal
+def cut(text, number):
+    """The forest text of a cut: remainder, space, pruned subtree, `;`."""
+    if number < 0:
+        raise ValueError("a cut number is 0 or more")
+    refuse_long_text(text, 0)
+    tree, _ = read_one(text, 0)
+    cuts = list(prunings(canonical(tree)))
+    if number >= len(cuts):
+        raise Refused(NO_SUCH_CUT, 0, 0)
+    remainder, pruned = cuts[number]
+    # Closing up may change which child holds the smaller label.
+    return node_text(canonical(remainder)) + b" " + canonical_text(pruned)
+
+
+@returns_refusal
+def pair(text0, text1):
+    """Whether two trees are one move apart; equal topologies are not."""
+    refuse_long_text(text0, 0)
+    refuse_long_text(text1, 1)
+    first, _ = read_one(text0, 0)
+    second, semicolon = read_one(text1, 1)
+    if first.clade != second.clade:
+        raise Refused(OTHER_LABELS, 1, semicolon)
+    return one_move_apart(first, second)
+
+
+@returns_refusal
+def table(text):
+    """The canonical texts of a table and their ends."""
+    return table_of(read_table(text))
+
+
+@returns_refusal
+def graph(text):
+    """The listed pairs of a table and the neighbour count of each tree."""
+    return graph_of(read_table(text))
+
+
+def table_of(trees):
+    """The Table of trees already read."""
+    texts = [canonical_text(tree) for tree in trees]
+    ends = []
+    written = 0
+    for text in texts:
+        written += len(text)
+        ends.append(written)
+    return Table(texts, ends)
+
+
+def graph_of(trees):
+    """The Graph of trees already read."""
+    kinds = number_topologies(trees)
+    reached_from = {}  # by kind, so that copies are worked out once
+    pairs = []
+    counts = [0] * len(trees)
+    for i, first in enumerate(trees):
+        for j in range(i + 1, len(trees)):
+            if kinds[i] == kinds[j]:
+                continue
+            if kinds[i] not in reached_from:
+                reached_from[kinds[i]] = reached(first)
+            if trees[j].clades in reached_from[kinds[i]]:
+                pairs.append((i, j))
+                counts[i] += 1
+                counts[j] += 1
+    return Graph(pairs, counts)
+
+
+def number_topologies(trees):
+    """A number for each tree; the same number exactly for equal topologies."""
+    numbers = {}
+    return [numbers.setdefault(tree.clades, len(numbers)) for tree in trees]
+
+
+# The sheet
+
+
+def sheet(text):
+    """What the pair lister prints for this standard input."""
+    try:
+        trees = read_table(text)
+    except Refused as refused:
+        return b"refused %d at %d\n" % (refused.refusal.number, refused.refusal.place)
+    return sheet_of(table_of(trees), graph_of(trees))
+
+
+def sheet_of(table_, graph_):
+    """The sheet of an accepted table; every line ends in one LF."""
+    size = len(table_.texts)
+    lines = [b"trees %d pairs %d" % (size, len(graph_.pairs))]
+    for i, (text, neighbours) in enumerate(zip(table_.texts, graph_.counts)):
+        unlinked = size - 1 - neighbours
+        lines.append(b"tree %d neighbours %d unlinked %d %s" % (i, neighbours, unlinked, text))
+    for i, j in graph_.pairs:
+        lines.append(b"pair %d %d" % (i, j))
+    return b"".join(line + b"\n" for line in lines)
+
+
+def main():
+    """Standard input to standard output."""
+    sys.stdout.buffer.write(sheet(sys.stdin.buffer.read()))
+
+
+if __name__ == "__main__":
+    main()

@@ -1,0 +1,479 @@
+#!/usr/bin/env python3
+"""Checks of reference.py: the samples of document 01, the order of refusals,
+and properties that hold for all trees, tried on all small and on random trees.
+
+    python3 test_reference.py
+"""
+
+import itertools
+import os
+import random
+import subprocess
+import sys
+import unittest
+
+import generate
+import reference
+from reference import cut, form, graph, pair, sheet, table
+
+HERE = os.path.dirname(os.path.abspath(__file__))
+
+SAMPLE_INPUT = b"((2,1),3);\n(3,(2,1));\n(1,(2,3));\n((1,3),2);\n"
+SAMPLE_SHEET = b"""\
+trees 4 pairs 5
+tree 0 neighbours 2 unlinked 1 ((1,2),3);
+tree 1 neighbours 2 unlinked 1 ((1,2),3);
+tree 2 neighbours 3 unlinked 0 (1,(2,3));
+tree 3 neighbours 3 unlinked 0 ((1,3),2);
+pair 0 2
+pair 0 3
+pair 1 2
+pair 1 3
+pair 2 3
+"""
+
+LEFT_COMB = generate.plain([generate.left_comb(list(range(1, 65)))])
+RIGHT_COMB = generate.plain([generate.right_comb(list(range(1, 65)))])
+OPEN_63 = b"(" * 63
+
+
+def tree_of(text):
+    """The tree of a text that holds exactly one."""
+    tree, _ = reference.read_one(text, 0)
+    return tree
+
+
+def text_of(nested):
+    """The text of a nested tuple, children as they stand."""
+    return generate.plain([nested])
+
+
+def all_trees(labels):
+    """One nested tuple for each topology on these labels."""
+    if len(labels) == 1:
+        return [labels[0]]
+    return [
+        generate.replaced(tree, path, (generate.subtree(tree, path), labels[-1]))
+        for tree in all_trees(labels[:-1])
+        for path in generate.paths(tree)
+    ]
+
+
+def random_pairs(seed, count, sizes):
+    """Random pairs of nested tuples on one label set: the second is 0, 1 or 2
+    random moves away from the first, or unrelated."""
+    rng = random.Random(seed)
+    for _ in range(count):
+        labels = generate.random_labels(rng, rng.choice(sizes))
+        first = generate.random_tree(rng, labels)
+        second = first
+        moves = rng.choice((0, 1, 2, None))
+        if moves is None:
+            second = generate.random_tree(rng, labels)
+        else:
+            for _ in range(moves):
+                second = generate.random_move(rng, second)
+        yield first, generate.swapped(rng, second)
+
+
+# Forests, worked out from clade sets alone.  They are used in this file only.
+
+
+def forest(clades, pruned):
+    """The two components' topologies when the clade `pruned` is cut off.
+
+    The remainder's clades are the others with the pruned labels taken out.
+    The node that the pruned subtree hung from then has its sibling's clade,
+    so it is closed up by itself.  The remainder stands first: a forest keeps
+    which of the two holds the old root.
+    """
+    remainder = frozenset(clade - pruned for clade in clades if not clade <= pruned)
+    return remainder, frozenset(clade for clade in clades if clade <= pruned)
+
+
+def forests(clades):
+    """The set of forests of two components that one cut makes."""
+    whole = max(clades, key=len)
+    return {forest(clades, clade) for clade in clades if clade != whole}
+
+
+def node_from_clades(clades, clade):
+    """Canonical text of the node with this clade, from the clade set alone."""
+    if len(clade) == 1:
+        return b"%d" % min(clade)
+    below = [other for other in clades if other < clade]
+    # The two largest clades below that are not inside another are the children.
+    children = [one for one in below if not any(one < other for other in below)]
+    first, second = sorted(children, key=min)
+    return b"(%s,%s)" % (node_from_clades(clades, first), node_from_clades(clades, second))
+
+
+def text_from_clades(clades):
+    """The canonical text from the clade set alone."""
+    return node_from_clades(clades, max(clades, key=len)) + b";"
+
+
+class Samples(unittest.TestCase):
+    """Every sample of document 01."""
+
+    def test_forms(self):
+        """Canonical texts."""
+        self.assertEqual(form(b"(3,(2,1));"), b"((1,2),3);")
+        self.assertEqual(form(b"(10,2);"), b"(2,10);")
+        self.assertEqual(form(b" 7 ;"), b"7;")
+        self.assertEqual(form(b"(1,64);"), b"(1,64);")
+
+    def test_refused_forms(self):
+        """Refusals in the form call."""
+        self.assertEqual(form(b"(1,2,3);"), (1, 0, 4))
+        self.assertEqual(form(b"(1,2)"), (1, 0, 5))
+        self.assertEqual(form(b"(1,2);x"), (1, 0, 6))
+        self.assertEqual(form(b"(1,1);"), (3, 0, 3))
+        self.assertEqual(form(b"(1,65);"), (2, 0, 3))
+        self.assertEqual(form(b""), (1, 0, 0))
+
+    def test_empty_table(self):
+        """The empty text is a table of no trees."""
+        self.assertEqual(table(b""), ([], []))
+        self.assertEqual(graph(b""), ([], []))
+        self.assertEqual(sheet(b""), b"trees 0 pairs 0\n")
+
+    def test_other_labels(self):
+        """A later tree on other labels."""
+        self.assertEqual(table(b"(1,2);(1,3);"), (5, 0, 11))
+        self.assertEqual(graph(b"(1,2);(1,3);"), (5, 0, 11))
+
+    def test_cuts(self):
+        """All cuts of the four-leaf sample, and none of a single leaf."""
+        expected = [
+            b"(3,4) (1,2);", b"(2,(3,4)) 1;", b"(1,(3,4)) 2;",
+            b"(1,2) (3,4);", b"((1,2),4) 3;", b"((1,2),3) 4;",
+        ]
+        self.assertEqual([cut(b"((1,2),(3,4));", c) for c in range(6)], expected)
+        self.assertEqual(cut(b"((1,2),(3,4));", 6), (9, 0, 0))
+        self.assertEqual(cut(b" 7 ;", 0), (9, 0, 0))
+
+    def test_pair_by_three_forests(self):
+        """One pair, although three forests are shared."""
+        first, second = b"(((1,2),3),4);", b"((1,2),(3,4));"
+        self.assertIs(pair(first, second), True)
+        self.assertEqual(graph(first + second), ([(0, 1)], [1, 1]))
+        shared = forests(tree_of(first).clades) & forests(tree_of(second).clades)
+        self.assertEqual(len(shared), 3)
+
+    def test_no_pairs(self):
+        """The two samples that are not one move apart."""
+        self.assertIs(pair(b"(((1,2),3),4);", b"(((3,4),1),2);"), False)
+        self.assertIs(pair(b"((((4,5),1),2),3);", b"((((1,2),3),4),5);"), False)
+
+    def test_open_brackets(self):
+        """63 open brackets with 64 leaves; the 64th bracket."""
+        self.assertEqual(form(LEFT_COMB), LEFT_COMB)
+        self.assertEqual(form(RIGHT_COMB), RIGHT_COMB)
+        self.assertEqual(form(OPEN_63 + b"("), (4, 0, 63))
+        self.assertEqual(form(RIGHT_COMB.replace(b"64", b"(64,1)")), (4, 0, RIGHT_COMB.index(b"64")))
+
+    def test_160_trees(self):
+        """160 trees, and one more."""
+        self.assertEqual(len(table(b"(1,2);" * 160).texts), 160)
+        self.assertEqual(table(b"(1,2);" * 161), (6, 0, 960))
+        self.assertEqual(graph(b"(1,2);" * 161), (6, 0, 960))
+
+    def test_sheet(self):
+        """The whole sample sheet."""
+        self.assertEqual(sheet(SAMPLE_INPUT), SAMPLE_SHEET)
+
+    def test_longest_texts(self):
+        """309 bytes for a canonical text, 307 for a forest text."""
+        self.assertEqual(len(form(LEFT_COMB)), 309)
+        self.assertEqual({len(cut(LEFT_COMB, c)) for c in range(126)}, {307})
+        self.assertEqual(cut(LEFT_COMB, 126), (9, 0, 0))
+        ends = table(LEFT_COMB * 160).ends
+        self.assertEqual(ends, [309 * (i + 1) for i in range(160)])
+
+
+class Refusals(unittest.TestCase):
+    """The refusal list and its order, beyond the samples."""
+
+    def check(self, call, expected):
+        """Each text of the dictionary is refused by `call` as it says."""
+        for text, refusal in expected.items():
+            with self.subTest(text=text[:60]):
+                self.assertEqual(call(text), refusal)
+
+    def test_bytes_and_ends(self):
+        """Refusal 1 in a single tree."""
+        self.check(form, {
+            b" ": (1, 0, 1), b"\t\r\n ": (1, 0, 4), b";": (1, 0, 0), b"()": (1, 0, 1),
+            b"(1);": (1, 0, 2), b"(1,);": (1, 0, 3), b"(1 2,3);": (1, 0, 3), b"1 ": (1, 0, 2),
+            b"(1,2)3;": (1, 0, 5), b"(1,2)065;": (1, 0, 5), b"1 1;": (1, 0, 2), b"1;1;": (1, 0, 2),
+            b"1; \x00": (1, 0, 3), b"\x0b1;": (1, 0, 0), b"1\xa0;": (1, 0, 1), b"(1(2,3));": (1, 0, 2),
+            b"\xb2;": (1, 0, 0), b"(1,2); \n ": b"(1,2);",
+        })
+
+    def test_labels(self):
+        """Refusals 2 and 3; 2 goes before 3; a run may end with the text."""
+        self.check(form, {
+            b"0;": (2, 0, 0), b"01;": (2, 0, 0), b"65;": (2, 0, 0), b"100;": (2, 0, 0),
+            b"257;": (2, 0, 0), b"(1,18446744073709551618);": (2, 0, 3),
+            b"(1,01);": (2, 0, 3), b"(1,65": (2, 0, 3), b"(1,1": (3, 0, 3), b"(1,6": (1, 0, 4),
+            b"(1,1x": (3, 0, 3), b"(1,65x": (2, 0, 3), b"(1,10);": b"(1,10);", b"(12,2": (1, 0, 5),
+            b"(1," + b"9" * 60000 + b");": (2, 0, 3), b"0" * 65535: (2, 0, 0),
+        })
+
+    def test_labels_of_trees_are_apart(self):
+        """A label may come again in the next tree."""
+        self.assertEqual(table(b"1;1;"), ([b"1;", b"1;"], [2, 4]))
+
+    def test_depth(self):
+        """Refusal 4 only where a node may begin."""
+        self.check(form, {
+            OPEN_63: (1, 0, 63), OPEN_63 + b" (": (4, 0, 64), OPEN_63 + b"1(": (1, 0, 64),
+            OPEN_63 + b"1,2(": (1, 0, 66), OPEN_63 + b"1,2)(": (1, 0, 67),
+            OPEN_63 + b"1,2),(": (1, 0, 69), OPEN_63 + b"1,2),((": (4, 0, 69),
+            OPEN_63 + b"1,(": (4, 0, 65), b"(" * 65535: (4, 0, 63),
+        })
+
+    def test_label_sets(self):
+        """Refusal 5 stands at the `;`, and is tried only there."""
+        self.check(table, {
+            b"1;2;": (5, 0, 3), b"(1,2);1;": (5, 0, 7), b"1;(1,2);": (5, 0, 7),
+            b"(1,2);(1,3)x": (1, 0, 11), b"(1,2);(1,3)": (1, 0, 11), b"(1,2);(1,3);x": (5, 0, 11),
+            b"(1,2);(1,3) \n;": (5, 0, 13), b"(1,2);(3,3);": (3, 0, 9), b"(1,64);(1,63);": (5, 0, 13),
+            b"1;1;2;x": (5, 0, 5), b"1;1x;2;": (1, 0, 3),
+        })
+
+    def test_number_of_trees(self):
+        """Refusal 6 for any byte but a blank after 160 trees."""
+        full = b"1;" * 160
+        for extra in (b"x", b"1;", b"2;", b"0", b"(", b";", b"\x00", b"\xff"):
+            self.assertEqual(table(full + extra), (6, 0, 320))
+            self.assertEqual(table(full + b" \n" + extra), (6, 0, 322))
+        self.assertEqual(len(table(full + b" \t\r\n").texts), 160)
+        self.assertEqual(table(full[2:] + b"2;x"), (5, 0, 319))
+        self.assertEqual(table(full[2:] + b"x"), (1, 0, 318))
+
+    def test_length(self):
+        """Refusal 8 before any byte."""
+        self.check(form, {
+            b"1;" + b" " * 65533: b"1;", b"1;" + b" " * 65534: (8, 0, 0),
+            b"x" * 65535: (1, 0, 0), b"x" * 65536: (8, 0, 0),
+        })
+        self.assertEqual(table(b" " * 65535), ([], []))
+        self.assertEqual(table(b" " * 65536), (8, 0, 0))
+        self.assertEqual(cut(b" " * 65536, 0), (8, 0, 0))
+
+    def test_blanks_only(self):
+        """Blanks alone are a table of no trees; in a cut or pair, refusal 1."""
+        self.assertEqual(table(b" \t\r\n"), ([], []))
+        self.assertEqual(cut(b" \t", 0), (1, 0, 2))
+        self.assertEqual(pair(b"", b""), (1, 0, 0))
+        self.assertEqual(pair(b"1;", b"  "), (1, 1, 2))
+
+    def test_cut_numbers(self):
+        """Refusal 9 comes after every refusal of the text."""
+        self.assertEqual(cut(b"(1,2);", 1), b"1 2;")
+        self.assertEqual(cut(b"(1,2);", 2), (9, 0, 0))
+        self.assertEqual(cut(b"(1,2);", 2 ** 64), (9, 0, 0))
+        self.assertEqual(cut(b"(1,2)", 9), (1, 0, 5))
+        self.assertEqual(cut(b"(1,2); x", 9), (1, 0, 7))
+        self.assertRaises(ValueError, cut, b"(1,2);", -1)
+
+    def test_pair_order(self):
+        """Lengths, then text 0, then text 1, then the label sets."""
+        long = b"1;" + b" " * 65534
+        self.assertEqual(pair(long, long), (8, 0, 0))
+        self.assertEqual(pair(b"x", long), (8, 1, 0))
+        self.assertEqual(pair(b"1;x", b"x"), (1, 0, 2))
+        self.assertEqual(pair(b"1;", b"2;x"), (1, 1, 2))
+        self.assertEqual(pair(b"1;", b" 2 ; "), (5, 1, 3))
+        self.assertEqual(pair(b"(1,2);", b"(1,1);"), (3, 1, 3))
+        self.assertIs(pair(b"1;", b"1;"), False)
+
+    def test_sheet_of_a_refusal(self):
+        """One line, no more."""
+        self.assertEqual(sheet(b"(1,2,3);"), b"refused 1 at 4\n")
+        self.assertEqual(sheet(b"x" * 65536), b"refused 8 at 0\n")
+        self.assertEqual(sheet(b"1;"), b"trees 1 pairs 0\ntree 0 neighbours 0 unlinked 0 1;\n")
+
+
+class AllSmallTrees(unittest.TestCase):
+    """Properties tried on every topology of up to five leaves."""
+
+    def setUp(self):
+        """Trees of each size on scattered labels, as read from their texts."""
+        labels = (10, 2, 64, 9, 33)
+        self.by_size = {
+            size: [tree_of(text_of(nested)) for nested in all_trees(labels[:size])]
+            for size in range(1, 6)
+        }
+
+    def test_number_of_topologies(self):
+        """1, 1, 3, 15, 105 clade sets, and as many canonical texts."""
+        for size, expected in zip(range(1, 6), (1, 1, 3, 15, 105)):
+            trees = self.by_size[size]
+            self.assertEqual(len({tree.clades for tree in trees}), expected)
+            self.assertEqual(len({reference.canonical_text(tree) for tree in trees}), expected)
+
+    def test_pair_is_symmetric(self):
+        """A move from the first to the second goes back too."""
+        for trees in self.by_size.values():
+            reached = {tree.clades: reference.reached(tree) for tree in trees}
+            for first, second in itertools.combinations(reached, 2):
+                self.assertEqual(second in reached[first], first in reached[second])
+
+    def test_lemma_2_2(self):
+        """Distinct trees: one move apart exactly if they share a forest."""
+        for trees in self.by_size.values():
+            for first in trees:
+                reached = reference.reached(first)
+                own = forests(first.clades)
+                for second in trees:
+                    if first.clades != second.clades:
+                        shared = not own.isdisjoint(forests(second.clades))
+                        self.assertEqual(second.clades in reached, shared)
+
+    def test_results_are_trees(self):
+        """Every topology that a move gives is one of the possible ones."""
+        for trees in self.by_size.values():
+            possible = {tree.clades for tree in trees}
+            for tree in trees:
+                self.assertLessEqual(reference.reached(tree), possible)
+
+
+class RandomTrees(unittest.TestCase):
+    """Properties tried on random trees."""
+
+    def test_pair_is_symmetric(self):
+        """The pair call gives the same for both orders, also in a table."""
+        answers = set()
+        for first, second in random_pairs(11, 400, range(1, 9)):
+            one, other = text_of(first), text_of(second)
+            answer = pair(one, other)
+            self.assertEqual(pair(other, one), answer)
+            self.assertEqual(graph(one + other).pairs, [(0, 1)] if answer else [])
+            answers.add(answer)
+        self.assertEqual(answers, {False, True})
+
+    def test_lemma_2_2(self):
+        """Distinct trees: one move apart exactly if they share a forest."""
+        for first, second in random_pairs(12, 600, range(4, 11)):
+            one, other = tree_of(text_of(first)), tree_of(text_of(second))
+            if one.clades != other.clades:
+                shared = not forests(one.clades).isdisjoint(forests(other.clades))
+                self.assertEqual(reference.one_move_apart(one, other), shared)
+
+    def test_cuts_are_the_forests(self):
+        """The cut call's texts name the forests, each by its own topologies."""
+        for tree, _ in random_pairs(13, 100, range(2, 9)):
+            text = text_of(tree)
+            clades = tree_of(text).clades
+            cuts = []
+            while not isinstance(cut(text, len(cuts)), reference.Refusal):
+                cuts.append(cut(text, len(cuts)))
+            self.assertEqual(len(cuts), len(clades) - 1)
+            from_cuts = set()
+            for forest_text in cuts:
+                remainder, pruned = forest_text.split(b" ")
+                self.assertEqual(form(remainder + b";"), remainder + b";")
+                self.assertEqual(form(pruned), pruned)
+                from_cuts.add((tree_of(remainder + b";").clades, tree_of(pruned).clades))
+            self.assertEqual(from_cuts, forests(clades))
+
+    def test_cut_numbering(self):
+        """Pruned subtrees begin one after another in the canonical text."""
+        for tree, _ in random_pairs(14, 100, range(2, 12)):
+            canonical = form(text_of(tree))
+            # Beginnings of nodes: every bracket but the root's, every label.
+            starts = [
+                place for place in range(1, len(canonical))
+                if canonical[place:place + 1] == b"("
+                or canonical[place:place + 1].isdigit() and not canonical[place - 1:place].isdigit()
+            ]
+            for number, start in enumerate(starts):
+                pruned = cut(canonical, number).split(b" ")[1][:-1]
+                self.assertTrue(canonical.startswith(pruned, start))
+                self.assertNotIn(canonical[start + len(pruned)], b"0123456789")
+            self.assertEqual(cut(canonical, len(starts)), (9, 0, 0))
+
+    def test_moves_by_paths(self):
+        """The moves made node by node in generate.py reach the same set."""
+        for tree, _ in random_pairs(15, 150, range(1, 10)):
+            literal = {tree_of(text_of(moved)).clades for moved in generate.all_moves(tree)}
+            self.assertEqual(reference.reached(tree_of(text_of(tree))), literal)
+
+    def test_canonical_text_is_idempotent(self):
+        """A canonical text is its own canonical text, for any layout."""
+        rng = random.Random(16)
+        for tree, _ in random_pairs(16, 300, (1, 2, 3, 5, 8, 13, 21, 34, 64)):
+            canonical = form(text_of(tree))
+            self.assertEqual(form(canonical), canonical)
+            other_layout = generate.written(rng, [generate.swapped(rng, tree)])
+            self.assertEqual(form(other_layout), canonical)
+
+    def test_clades_determine_the_canonical_text(self):
+        """The text can be written from the clade set; different sets give
+        different texts."""
+        for first, second in random_pairs(17, 400, range(1, 13)):
+            one, other = tree_of(text_of(first)), tree_of(text_of(second))
+            for tree in (one, other):
+                self.assertEqual(reference.canonical_text(tree), text_from_clades(tree.clades))
+            same_text = reference.canonical_text(one) == reference.canonical_text(other)
+            self.assertEqual(same_text, one.clades == other.clades)
+
+    def test_tables(self):
+        """Ends, counts and order of pairs in random tables."""
+        rng = random.Random(18)
+        for _ in range(60):
+            text = generate.written(rng, generate.usual_table(rng))
+            texts, ends = table(text)
+            pairs, counts = graph(text)
+            written = b"".join(texts)
+            self.assertEqual(
+                [written[start:end] for start, end in zip([0] + ends, ends)], texts)
+            expected = [
+                (i, j) for i, j in itertools.combinations(range(len(texts)), 2)
+                if pair(texts[i], texts[j])
+            ]
+            self.assertEqual(pairs, expected)
+            self.assertEqual(sum(counts), 2 * len(pairs))
+            for i, count in enumerate(counts):
+                self.assertEqual(count, sum(i in one_pair for one_pair in pairs))
+
+
+class Generator(unittest.TestCase):
+    """The cases themselves, and the command."""
+
+    def test_cases_are_determined(self):
+        """A case depends on the seed and its position only."""
+        longer = list(generate.cases(3, 400))
+        self.assertEqual(longer[:300], list(generate.cases(3, 300)))
+        self.assertNotEqual(longer, list(generate.cases(4, 400)))
+
+    def test_kinds_keep_their_word(self):
+        """Kinds that promise an outcome have it, and all refusals come up."""
+        promised = {
+            "one-move-apart": b"trees 2 pairs 1\n", "two-moves-apart": b"trees 2 pairs 0\n",
+            "damaged-label": b"refused 2 ", "repeated-label": b"refused 3 ", "too-deep": b"refused 4 ",
+            "other-labels": b"refused 5 ", "too-many": b"refused 6 ", "deep-comb": b"trees ",
+            "random-table": b"trees ", "chain": b"trees ", "copies": b"trees ", "crowd": b"trees ",
+        }
+        refused = set()
+        for position, kind, text in generate.cases(5, 800):
+            output = sheet(text)
+            self.assertTrue(output.startswith(promised.get(kind, b"")), (position, kind))
+            if output.startswith(b"refused"):
+                refused.add(int(output.split()[1]))
+        self.assertEqual(refused, {1, 2, 3, 4, 5, 6, 8})
+
+    def test_command(self):
+        """The command prints the sheet and nothing else."""
+        done = subprocess.run(
+            [sys.executable, os.path.join(HERE, "reference.py")], input=SAMPLE_INPUT,
+            stdout=subprocess.PIPE, stderr=subprocess.PIPE, check=True,
+        )
+        self.assertEqual((done.stdout, done.stderr), (SAMPLE_SHEET, b""))
+
+
+if __name__ == "__main__":
+    unittest.main()
