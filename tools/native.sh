@@ -49,7 +49,7 @@ cp -r crates.txt crates "$work/copy/"
 rm -f "$work/copy/$made" "$work/copy/target/stamp/$crate"*
 (cd "$work/copy" && RATTLE_HOME=$work/kit quietly rt $build)
 # -w: the module names x86-64 as its target, which --target overrides.
-"$tools/clang" --target="$machine-unknown-linux-gnu" -O3 -fPIC -w -c -x ir "$work/module.bc" -o "$work/module.o"
+quietly "$tools/clang" --target="$machine-unknown-linux-gnu" -O3 -fPIC -w -c -x ir "$work/module.bc" -o "$work/module.o"
 case $made in
 *.a) rm -f "$out" && "$tools/llvm-ar" rcs "$out" "$work/module.o" ;;
 *) cc "$work/module.o" -o "$out" ;;
