@@ -3,10 +3,10 @@
 use mathlib.Core.Path.{_≡_, refl, sym, ap, ap₂, _∙_}
 use mathlib.Core.List.{List}
 use Prim.Native.Nat.{ℕ}
-use native.Mathlib.Omega.{arith}
 use Rattle.meaning.specs.Answer.{Answer, Outcome, TableSize, TableMemory, GraphSize, GraphMemory}
 use Rattle.meaning.specs.Calls.{formCall, cutCall, PairCall, tableCall, GraphCall}
 use Rattle.meaning.proofs.Determined.{pair-determined, graph-determined}
+use Rattle.meaning.proofs.Logic.{clash}
 use Rattle.reading.specs.declared.Refusal.{Refusal}
 use Rattle.calls.specs.Paper.{refusalOf, textAnswer, textOutcome, pairAnswer, tableAnswer, tableOutcome, graphAnswer, graphOutcome}
 use Rattle.calls.specs.declared.TextAnswer.{TextAnswer}
@@ -28,8 +28,8 @@ refusal-one e = same-fields (cc) (cc) (cc)
 -- an answer is its paper's numbers and values
 pub text-one : (r r′ : TextAnswer) → textAnswer r ≡ textAnswer r′ → r ≡ r′
 text-one (Written n) (Written m) e = cc
-text-one (Written n) (Refused y) e = let z : _≡_ {A = ℕ} 0 1 = cc in absurd (omega arith)
-text-one (Refused x) (Written m) e = let z : _≡_ {A = ℕ} 0 1 = cc in absurd (omega arith)
+text-one (Written n) (Refused y) e = clash cc
+text-one (Refused x) (Written m) e = clash cc
 text-one (Refused x) (Refused y) e = ap Refused (refusal-one e)
 
 -- two outcomes that one outcome of the definition allows are the same
@@ -49,8 +49,8 @@ pub table-one : (r r′ : TableAnswer) → tableAnswer r ≡ tableAnswer r′ �
 table-one (table.Written n k) (table.Written m j) e =
     let x : _≡_ {A = TableSize} (record { bytes = n; trees = k }) (record { bytes = m; trees = j }) = cc in
     ap₂ table.Written (ap (λ (z : TableSize). z .bytes) x) (ap (λ (z : TableSize). z .trees) x)
-table-one (table.Written n k) (table.Refused y) e = let z : _≡_ {A = ℕ} 0 1 = cc in absurd (omega arith)
-table-one (table.Refused x) (table.Written m j) e = let z : _≡_ {A = ℕ} 0 1 = cc in absurd (omega arith)
+table-one (table.Written n k) (table.Refused y) e = clash cc
+table-one (table.Refused x) (table.Written m j) e = clash cc
 table-one (table.Refused x) (table.Refused y) e = ap table.Refused (refusal-one e)
 
 pub table-call-determined : (s : List ℕ) (memory : TableMemory) {r r′ : TableAnswer} {texts texts′ ends ends′ : List ℕ} → tableOutcome r texts ends ≡ tableCall s memory → tableOutcome r′ texts′ ends′ ≡ tableCall s memory → (r ≡ r′) × (texts ≡ texts′) × (ends ≡ ends′)
@@ -64,13 +64,13 @@ table-call-determined s memory {r} {r′} e f =
 -- the pair call
 pub pair-one : (r r′ : PairAnswer) → pairAnswer r ≡ pairAnswer r′ → r ≡ r′
 pair-one pair.Yes pair.Yes e = refl
-pair-one pair.Yes pair.No e = let z : _≡_ {A = ℕ} 0 1 = cc in absurd (omega arith)
-pair-one pair.Yes (pair.Refused y) e = let z : _≡_ {A = ℕ} 0 1 = cc in absurd (omega arith)
-pair-one pair.No pair.Yes e = let z : _≡_ {A = ℕ} 0 1 = cc in absurd (omega arith)
+pair-one pair.Yes pair.No e = clash cc
+pair-one pair.Yes (pair.Refused y) e = clash cc
+pair-one pair.No pair.Yes e = clash cc
 pair-one pair.No pair.No e = refl
-pair-one pair.No (pair.Refused y) e = let z : _≡_ {A = ℕ} 0 1 = cc in absurd (omega arith)
-pair-one (pair.Refused x) pair.Yes e = let z : _≡_ {A = ℕ} 0 1 = cc in absurd (omega arith)
-pair-one (pair.Refused x) pair.No e = let z : _≡_ {A = ℕ} 0 1 = cc in absurd (omega arith)
+pair-one pair.No (pair.Refused y) e = clash cc
+pair-one (pair.Refused x) pair.Yes e = clash cc
+pair-one (pair.Refused x) pair.No e = clash cc
 pair-one (pair.Refused x) (pair.Refused y) e = ap pair.Refused (refusal-one e)
 
 pub pair-call-determined : {s s′ : List ℕ} (r r′ : PairAnswer) → PairCall s s′ (pairAnswer r) → PairCall s s′ (pairAnswer r′) → r ≡ r′
@@ -81,8 +81,8 @@ pub graph-one : (r r′ : GraphAnswer) → graphAnswer r ≡ graphAnswer r′ �
 graph-one (graph.Listed k n) (graph.Listed j m) e =
     let x : _≡_ {A = GraphSize} (record { trees = k; pairs = n }) (record { trees = j; pairs = m }) = cc in
     ap₂ graph.Listed (ap (λ (z : GraphSize). z .trees) x) (ap (λ (z : GraphSize). z .pairs) x)
-graph-one (graph.Listed k n) (graph.Refused y) e = let z : _≡_ {A = ℕ} 0 1 = cc in absurd (omega arith)
-graph-one (graph.Refused x) (graph.Listed j m) e = let z : _≡_ {A = ℕ} 0 1 = cc in absurd (omega arith)
+graph-one (graph.Listed k n) (graph.Refused y) e = clash cc
+graph-one (graph.Refused x) (graph.Listed j m) e = clash cc
 graph-one (graph.Refused x) (graph.Refused y) e = ap graph.Refused (refusal-one e)
 
 pub graph-call-determined : (s : List ℕ) (memory : GraphMemory) (r r′ : GraphAnswer) {pairs pairs′ counts counts′ : List ℕ} → GraphCall s memory (graphOutcome r pairs counts) → GraphCall s memory (graphOutcome r′ pairs′ counts′) → (r ≡ r′) × (pairs ≡ pairs′) × (counts ≡ counts′)

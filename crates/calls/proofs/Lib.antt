@@ -1,5 +1,6 @@
 pub mod Determined
 pub mod Graphing
+pub mod Lent
 pub mod Pairing
 pub mod Tabling
 pub mod Texts

@@ -1,33 +1,53 @@
--- What the calls with one tree read, and what they ask of their parts.
+-- What a call reads of its text, once its lent slices are measured, and what the cut call asks of its part.
 -- Assumes nothing.
 use mathlib.Core.Path.{_≡_}
 use mathlib.Core.List.{List}
+use mathlib.Core.Bool.{Bool, true, false, cond}
 use Prim.Native.Nat.{ℕ, _≤_}
-use Rattle.meaning.specs.Tree.{Tree, Good, canon}
+use lib.Dec.{ltb}
+use lib.ListN.{length}
+use Rattle.meaning.specs.Limits.{forestBytes, textBytes}
+use Rattle.meaning.specs.Tree.{Tree as Topology}
 use Rattle.meaning.specs.Move.{cutAt, forest}
 use Rattle.meaning.specs.Answer.{Answer, accepted, refusal, Outcome, textOf, conclude}
 use Rattle.meaning.specs.Calls.{hasCut}
-use Rattle.held.specs.Held.{nodes, hold}
-use Rattle.reading.specs.declared.TreeRead.{TreeRead}
+use Rattle.held.specs.Held.{nodes}
+use Rattle.held.specs.Kept.{Keeps, KeepsAll}
+use Rattle.held.specs.declared.Tree.{Tree}
+use Rattle.reading.specs.declared.Step.{Step}
 use Rattle.reading.specs.declared.Step.the-variants.{Next, Refused}
+use Rattle.reading.specs.declared.TreeRead.{TreeRead}
+use Rattle.reading.specs.declared.tables.TableRead.{TableRead}
 
--- an accepted tree is held in canonical order; a refusal is the answer
-pub data LentMeets (r : TreeRead) : Answer Tree → Type 0 where
-  accepts : (t : Tree) (p : ℕ) → Good t → r .step ≡ Next p (nodes t) → r .tree .node ≡ hold (canon t) → LentMeets r (accepted t)
-  denies : (n i p : ℕ) → r .step ≡ Refused (record { number = n; text = i; place = p }) → LentMeets r (refusal n i p)
+-- the step that refuses
+abbrev pub refusedStep : ℕ → ℕ → ℕ → Step
+refusedStep n i p = Refused (record { number = n; text = i; place = p })
 
--- the step that refuses a size
-abbrev pub RefusedSize : TreeRead → ℕ → Type 0
-RefusedSize r n = r .step ≡ Refused (record { number = n; text = 0; place = 0 })
+-- the line for which a call reads nothing of a text of so many bytes: 7 where it is not lent enough, 8 where the text is too long; 0 where it reads
+abbrev pub withheld : Bool → ℕ → ℕ
+withheld false bytes = 7
+withheld true bytes = cond (ltb textBytes bytes) 8 0
 
--- xs holds the canonical form of a tree of so many nodes, and there is room for any forest text
-pub record CutRoom (xs : List ℕ) (count len : ℕ) : Type 0 where
-  pub tree : Tree
-  pub good : Good tree
-  pub held : xs ≡ hold (canon tree)
-  pub size : count ≡ nodes tree
-  pub room : 307 ≤ len
+-- what was accepted is kept, and the step has its size beside the place; a refusal is the answer
+pub data LentMeets {A : Type 0} (size : A → ℕ) (Keep : A → Type 0) (step : Step) : Answer A → Type 0 where
+  accepts : (x : A) (p : ℕ) → step ≡ Next p (size x) → Keep x → LentMeets size Keep step (accepted x)
+  denies : (n i p : ℕ) → step ≡ refusedStep n i p → LentMeets size Keep step (refusal n i p)
+
+-- of a tree, its nodes
+abbrev pub TreeLent : TreeRead → Answer Topology → Type 0
+TreeLent r a = LentMeets nodes (Keeps (r .tree)) (r .step) a
+
+-- of a table, its trees
+abbrev pub TableLent : TableRead → Answer (List Topology) → Type 0
+TableLent r a = LentMeets length (KeepsAll (r .table)) (r .step) a
+
+-- the record keeps a tree of so many nodes, and there is room for any forest text
+pub record CutRoom (tree : Tree) (count len : ℕ) : Type 0 where
+  pub topology : Topology
+  pub keeps : Keeps tree topology
+  pub size : count ≡ nodes topology
+  pub room : forestBytes ≤ len
 
 -- what the cut call leaves of the tree t
-abbrev pub cutText : Tree → ℕ → List ℕ → Outcome ℕ (List ℕ)
+abbrev pub cutText : Topology → ℕ → List ℕ → Outcome ℕ (List ℕ)
 cutText t c out = conclude (hasCut c t) out λ u. textOf (forest (cutAt u c)) out

@@ -1,24 +1,25 @@
 // The public calls. None asks anything of its caller: what cannot be answered is refused, and a refusal changes no lent cell.
+use held::Table;
 use held::Tree;
 use reading::Refusal;
 use reading::Step;
+use reading::TableRead;
 use reading::TreeRead;
-use tables::Table;
-use tables::TableRead;
 ghost use mathlib.Core.Path.{_≡_};
 ghost use mathlib.Core.Bool.{_&&_};
 ghost use Prim.Native.Nat.{_≤_};
 ghost use lib.Dec.{leb};
 ghost use lib.ListN.{length};
-ghost use Rattle.meaning.specs.Tree.{Tree as Topology, Good, canon};
+ghost use Rattle.meaning.specs.Tree.{Tree as Topology};
 ghost use Rattle.meaning.specs.Reading.{got, readTree};
 ghost use Rattle.meaning.specs.Calls.{lent, limited, answered, formCall, cutCall, beside, PairCall, tableRead, tableCall, GraphCall};
-ghost use Rattle.held.specs.Held.{nodes, hold};
+ghost use Rattle.held.specs.Held.{nodes};
+ghost use Rattle.held.specs.Kept.{Keeps, Kept};
+ghost use Rattle.graph.specs.Graph.{slices};
 ghost use Rattle.calls.specs.Paper.{textOutcome, pairAnswer, tableOutcome, graphOutcome};
-ghost use Rattle.calls.specs.Lent.{LentMeets, RefusedSize, CutRoom, cutText};
-ghost use Rattle.pairs.specs.Pair.{Canonically};
+ghost use Rattle.calls.specs.Lent.{refusedStep, withheld, TreeLent, TableLent, CutRoom, cutText};
 ghost use Rattle.calls.specs.Paired.{Answers};
-ghost use Rattle.calls.specs.Tabled.{TableLent, RefusedTable, TableRoom, TableWritten};
+ghost use Rattle.calls.specs.Tabled.{textSlices, TableRoom, TableWritten};
 
 // What a call that writes a text answers: its bytes, or why it refuses.
 pub enum TextAnswer {
@@ -37,24 +38,46 @@ fn refusal_at_zero(number: u8, text: u8) -> Refusal
     }
 }
 
-fn refused_size(number: u8) -> TreeRead
-    ensures { λ r. ⌜ RefusedSize r number ⌝ }
-{
-    TreeRead {
-        step: Step::Refused(refusal_at_zero(number, 0)),
-        tree: Tree::empty(),
-    }
-}
-
-// The one tree of s, for a call that is lent `len` cells and asks for `least`.
-fn read_lent(s: &[u8], len: usize, least: usize) -> TreeRead
-    ensures { λ r. ⌜ LentMeets r (lent (leb least len) (limited 0 (now (s .entry)) (answered 0 (readTree (now (s .entry)))))) ⌝ }
+// Whether a slice of `len` cells has the stated size, and the others have theirs.
+fn enough(least: usize, len: usize, others: bool) -> bool
+    ensures { λ r. ⌜ r ≡ (leb least len && others) ⌝ }
 {
     if len < least {
-        return refused_size(Refusal::SHORT_SLICE);
+        return false;
     }
-    if Tree::MAX_TEXT < s.len() {
-        return refused_size(Refusal::LONG_TEXT);
+    others
+}
+
+// The step that refuses before the text is read.
+fn refuse(number: u8) -> Step
+    ensures { λ r. ⌜ r ≡ refusedStep number 0 0 ⌝ }
+{
+    Step::Refused(refusal_at_zero(number, 0))
+}
+
+// The line for which a call reads nothing of s: its slices are too short, or s is too long. 0 where it reads.
+fn withheld(s: &[u8], fits: bool) -> u8
+    ensures { λ r. ⌜ r ≡ withheld fits (length (now (s .entry))) ⌝ }
+{
+    if !fits {
+        return Refusal::SHORT_SLICE;
+    }
+    if Tree::TEXT_BYTES < s.len() {
+        return Refusal::LONG_TEXT;
+    }
+    0
+}
+
+// The one tree of s, for a call that is lent enough or not.
+fn read_lent(s: &[u8], fits: bool) -> TreeRead
+    ensures { λ r. ⌜ TreeLent r (lent fits (limited 0 (now (s .entry)) (answered 0 (readTree (now (s .entry)))))) ⌝ }
+{
+    let line = withheld(s, fits);
+    if line != 0 {
+        return TreeRead {
+            step: refuse(line),
+            tree: Tree::empty(),
+        };
     }
     reading::read_tree(s)
 }
@@ -63,7 +86,7 @@ fn read_lent(s: &[u8], len: usize, least: usize) -> TreeRead
 pub fn form_call(s: &[u8], out: &mut [u8]) -> TextAnswer
     ensures { λ r. ⌜ textOutcome r (now (out .exit)) ≡ formCall (now (s .entry)) (now (out .entry)) ⌝ }
 {
-    let read = read_lent(s, out.len(), Tree::MAX_FORM);
+    let read = read_lent(s, enough(Tree::FORM_BYTES, out.len(), true));
     let step = read.step;
     match step {
         Step::Refused(x) => TextAnswer::Refused(x),
@@ -73,8 +96,8 @@ pub fn form_call(s: &[u8], out: &mut [u8]) -> TextAnswer
 
 // Writes the forest text of a cut of a tree that has `count` nodes: it has a cut for each node but its root.
 fn write_cut(out: &mut [u8], tree: Tree, count: usize, cut: usize) -> TextAnswer
-    requires { ⌜ CutRoom (tree .node) count (length (now out)) ⌝ }
-    ensures { λ r. ⌜ ((t : Topology) → Good t → tree .node ≡ hold (canon t) → count ≡ nodes t → textOutcome r (now (out .exit)) ≡ cutText t cut (now (out .entry))) ⌝ }
+    requires { ⌜ CutRoom tree count (length (now out)) ⌝ }
+    ensures { λ r. ⌜ ((t : Topology) → Keeps tree t → count ≡ nodes t → textOutcome r (now (out .exit)) ≡ cutText t cut (now (out .entry))) ⌝ }
 {
     if count - 1 <= cut {
         return TextAnswer::Refused(refusal_at_zero(Refusal::NO_SUCH_CUT, 0));
@@ -86,7 +109,7 @@ fn write_cut(out: &mut [u8], tree: Tree, count: usize, cut: usize) -> TextAnswer
 pub fn cut_call(s: &[u8], cut: usize, out: &mut [u8]) -> TextAnswer
     ensures { λ r. ⌜ textOutcome r (now (out .exit)) ≡ cutCall (now (s .entry)) cut (now (out .entry)) ⌝ }
 {
-    let read = read_lent(s, out.len(), Tree::MAX_FOREST);
+    let read = read_lent(s, enough(Tree::FOREST_BYTES, out.len(), true));
     let step = read.step;
     match step {
         Step::Refused(x) => TextAnswer::Refused(x),
@@ -103,12 +126,13 @@ pub enum PairAnswer {
 
 // Two trees, the second read from text 1 up to `behind`, where its `;` stands last.
 fn compare(first: Tree, second: Tree, behind: usize) -> PairAnswer
-    requires { ⌜ Canonically (first .node) × Canonically (second .node) × (1 ≤ behind) ⌝ }
-    ensures { λ r. ⌜ ((t u : Topology) → Good t → Good u → first .node ≡ hold (canon t) → second .node ≡ hold (canon u) → Answers (beside t (got u behind)) (pairAnswer r)) ⌝ }
+    requires { ⌜ Kept first × Kept second × (1 ≤ behind) ⌝ }
+    ensures { λ r. ⌜ ((t u : Topology) → Keeps first t → Keeps second u → Answers (beside t (got u behind)) (pairAnswer r)) ⌝ }
 {
-    if !tables::same_labels(first, second) {
+    let line = reading::unlike(first, second);
+    if line != 0 {
         return PairAnswer::Refused(Refusal {
-            number: Refusal::LABELS_DIFFER,
+            number: line,
             text: 1,
             place: behind - 1,
         });
@@ -133,8 +157,8 @@ fn refusal_of_second(x: Refusal) -> Refusal
 
 // The tree of text 0, and text 1.
 fn compare_with_text(first: Tree, s: &[u8]) -> PairAnswer
-    requires { ⌜ Canonically (first .node) ⌝ }
-    ensures { λ r. ⌜ ((t : Topology) → Good t → first .node ≡ hold (canon t) → Answers (beside t (readTree (now (s .entry)))) (pairAnswer r)) ⌝ }
+    requires { ⌜ Kept first ⌝ }
+    ensures { λ r. ⌜ ((t : Topology) → Keeps first t → Answers (beside t (readTree (now (s .entry)))) (pairAnswer r)) ⌝ }
 {
     let second = reading::read_tree(s);
     let step = second.step;
@@ -148,10 +172,10 @@ fn compare_with_text(first: Tree, s: &[u8]) -> PairAnswer
 pub fn pair_call(first: &[u8], second: &[u8]) -> PairAnswer
     ensures { λ r. ⌜ PairCall (now (first .entry)) (now (second .entry)) (pairAnswer r) ⌝ }
 {
-    if Tree::MAX_TEXT < first.len() {
+    if Tree::TEXT_BYTES < first.len() {
         return PairAnswer::Refused(refusal_at_zero(Refusal::LONG_TEXT, 0));
     }
-    if Tree::MAX_TEXT < second.len() {
+    if Tree::TEXT_BYTES < second.len() {
         return PairAnswer::Refused(refusal_at_zero(Refusal::LONG_TEXT, 1));
     }
     let read = reading::read_tree(first);
@@ -168,35 +192,24 @@ pub enum TableAnswer {
     Refused(Refusal),
 }
 
-fn refused_table(number: u8) -> TableRead
-    ensures { λ r. ⌜ RefusedTable r number ⌝ }
+// The trees of s, for a call that is lent enough or not.
+fn read_lent_table(s: &[u8], fits: bool) -> TableRead
+    ensures { λ r. ⌜ TableLent r (lent fits (tableRead (now (s .entry)))) ⌝ }
 {
-    TableRead {
-        step: Step::Refused(refusal_at_zero(number, 0)),
-        table: Table::empty(),
+    let line = withheld(s, fits);
+    if line != 0 {
+        return TableRead {
+            step: refuse(line),
+            table: Table::empty(),
+        };
     }
-}
-
-// The trees of a text, for a call that is lent two slices, the second with a number for each tree.
-fn read_lent_table(text: &[u8], cells: usize, least: usize, numbers: usize) -> TableRead
-    ensures { λ r. ⌜ TableLent r (lent (leb least cells && leb 160 numbers) (tableRead (now (text .entry)))) ⌝ }
-{
-    if cells < least {
-        return refused_table(Refusal::SHORT_SLICE);
-    }
-    if numbers < Table::MAX_TREES {
-        return refused_table(Refusal::SHORT_SLICE);
-    }
-    if Tree::MAX_TEXT < text.len() {
-        return refused_table(Refusal::LONG_TEXT);
-    }
-    tables::read_table(text)
+    reading::read_table(s)
 }
 
 // Writes the canonical texts of a table one after another, and the end of each; returns the end of the last.
-fn write_table(texts: &mut [u8], ends: &mut [u32], table: Table) -> usize
-    requires { ⌜ TableRoom table (length (now texts)) (length (now ends)) ⌝ }
-    ensures { λ r. ⌜ TableWritten table (now (texts .entry)) (now (texts .exit)) (now (ends .entry)) (now (ends .exit)) r ⌝ }
+fn write_texts(texts: &mut [u8], ends: &mut [u32], table: Table) -> usize
+    requires { ⌜ TableRoom table (textSlices (now texts) (now ends)) ⌝ }
+    ensures { λ r. ⌜ TableWritten table (textSlices (now (texts .entry)) (now (ends .entry))) (textSlices (now (texts .exit)) (now (ends .exit))) r ⌝ }
 {
     let mut at = 0;
     for i in 0..table.len {
@@ -208,13 +221,16 @@ fn write_table(texts: &mut [u8], ends: &mut [u32], table: Table) -> usize
 
 // Table call: the canonical texts of the trees of s, and the end of each.
 pub fn table_call(s: &[u8], texts: &mut [u8], ends: &mut [u32]) -> TableAnswer
-    ensures { λ r. ⌜ tableOutcome r (now (texts .exit)) (now (ends .exit)) ≡ tableCall (now (s .entry)) (record { texts = now (texts .entry); ends = now (ends .entry) }) ⌝ }
+    ensures { λ r. ⌜
+        tableOutcome r (now (texts .exit)) (now (ends .exit))
+        ≡ tableCall (now (s .entry)) (textSlices (now (texts .entry)) (now (ends .entry))) ⌝ }
 {
-    let read = read_lent_table(s, texts.len(), Table::MAX_TEXT_BYTES, ends.len());
+    let ends_fit = enough(Table::MAX_TREES, ends.len(), true);
+    let read = read_lent_table(s, enough(Table::TEXT_BYTES, texts.len(), ends_fit));
     let step = read.step;
     match step {
         Step::Refused(x) => TableAnswer::Refused(x),
-        Step::Next(_, count) => TableAnswer::Written(write_table(texts, ends, read.table), count),
+        Step::Next(_, count) => TableAnswer::Written(write_texts(texts, ends, read.table), count),
     }
 }
 
@@ -226,9 +242,12 @@ pub enum GraphAnswer {
 
 // Graph call: the pairs of trees of s that are one move apart, i and then j of each, and the neighbour count of each tree.
 pub fn graph_call(s: &[u8], pairs: &mut [u16], counts: &mut [u16]) -> GraphAnswer
-    ensures { λ r. ⌜ GraphCall (now (s .entry)) (record { pairs = now (pairs .entry); counts = now (counts .entry) }) (graphOutcome r (now (pairs .exit)) (now (counts .exit))) ⌝ }
+    ensures { λ r. ⌜
+        GraphCall (now (s .entry)) (slices (now (pairs .entry)) (now (counts .entry)))
+        (graphOutcome r (now (pairs .exit)) (now (counts .exit))) ⌝ }
 {
-    let read = read_lent_table(s, pairs.len(), Table::MAX_PAIR_NUMBERS, counts.len());
+    let counts_fit = enough(Table::MAX_TREES, counts.len(), true);
+    let read = read_lent_table(s, enough(Table::PAIR_NUMBERS, pairs.len(), counts_fit));
     let step = read.step;
     match step {
         Step::Refused(x) => GraphAnswer::Refused(x),

@@ -1,201 +1,136 @@
--- The turns of the two loops over a table's trees: what is listed at each, and what one pair more does to it.
+-- The turns of the loops that list and count: lists of pairs one after another, the part of a list that is done, and the room that is left.
 -- Assumes nothing.
-use mathlib.Core.Path.{_≡_, refl, ap, _∙_}
+use mathlib.Core.Path.{_≡_, refl, sym, ap, _∙_}
 use mathlib.Core.Logic.{_↔_}
-use mathlib.Core.Bool.{Bool, true, false}
-use mathlib.Core.List.{List, [], _∷_, _++_}
+use mathlib.Core.List.{List, [], _∷_, _++_, append-assoc, append-nil}
 use Prim.Native.Nat.{ℕ, _+_, _*_, _≤_, _<_}
+use native.Mathlib.Nat.{zero-add}
 use native.Mathlib.Omega.{arith}
-use lib.Dec.{T}
+use borrow.Author.Tests.{eq-eqb, ne-eqb}
+use lib.Dec.{eqb→eq, eqb-refl}
 use lib.ListN.{length, getD, replicate, length-append}
-use Rattle.meaning.specs.Tree.{Tree as Topology, Good, canon}
-use Rattle.meaning.specs.Move.{Apart}
-use Rattle.meaning.specs.Decide.{apart?}
-use Rattle.meaning.specs.Listing.{Pair, Listing, treeOf, neighbours, counts, flat}
-use Rattle.meaning.proofs.Decide.{apart-iff}
-use Rattle.meaning.proofs.Listing.{pairsFrom, left, left-begin, left-take, left-skip, left-end, all-listed}
-use Rattle.meaning.proofs.Counts.{counts-length, counts-at, neighbours-append, neighbours-le, counts-none, listing-few}
-use Rattle.meaning.proofs.TableText.{AllGood, good-at}
-use Rattle.meaning.proofs.Calls.{pairsIn, pairs-listed}
-use Rattle.held.specs.Held.{Wrote, hold}
-use Rattle.held.proofs.Write.{wrote-length}
-use Rattle.pairs.specs.Pair.{Says, Canonically}
-use Rattle.tables.specs.declared.Table.{Table}
-use Rattle.tables.specs.Trees.{heldAt, Holds}
-use Rattle.graph.specs.Graph.{PairRoom, PairAdded, GraphRoom, GraphWritten}
-use Rattle.graph.proofs.Stores.{sets-at, flat-more, counts-more}
+use Rattle.meaning.specs.Listing.{Pair, Listing, flat}
+use Rattle.meaning.specs.Loops.{rowOf, pairsOf}
+use Rattle.meaning.specs.Answer.{GraphMemory}
+use Rattle.meaning.proofs.Listing.{row-step, pairsOf-lists, listing-iff}
+use Rattle.meaning.proofs.Counts.{flat-append, listing-few}
+use Rattle.lent.specs.Runs.{Wrote}
+use Rattle.lent.proofs.Runs.{wrote-length, wrote-more}
+use Rattle.graph.specs.Graph.{LinkedIn, linked?, tally, PairRoom, PairAdded, Listed, PairsRoom, ListRoom, Graph}
+use Rattle.graph.proofs.Stores.{wrote-pair, tally-length, tally-append, more-le, tally-le, cleared-at, counts-written}
 
--- the trees at positions i and j are one move apart
-abbrev linked? : List Topology → ℕ → ℕ → Bool
-linked? ts i j = apart? (treeOf ts i) (treeOf ts j)
-
--- the pairs that are left where the outer loop is at i, and where the inner one is at j
-abbrev pub rows : ℕ → List Topology → List Pair
-rows i ts = pairsFrom i (length ts) (linked? ts)
-
-abbrev pub cells : ℕ → ℕ → List Topology → List Pair
-cells i j ts = left i j (length ts) (linked? ts)
-
--- m pairs of the trees ts are listed and counted, and `rest` is left; the slices are as they were at first, and as they are now
-pub record Listed (ts : List Topology) (rest : List Pair) (pairs pairs′ numbers numbers′ : List ℕ) (m : ℕ) : Type 0 where
-  pub linked : List Pair
-  pub all : linked ++ rest ≡ pairsIn ts
-  pub many : m ≡ length linked
-  pub in-pairs : Wrote (flat linked) pairs pairs′ 0 (2 * length linked)
-  pub in-counts : Wrote (counts (length ts) linked) numbers numbers′ 0 (length ts)
-
--- the same of whatever trees the table holds
-abbrev pub State : Table → (List Topology → List Pair) → List ℕ → List ℕ → List ℕ → List ℕ → ℕ → Type 0
-State table rest pairs pairs′ numbers numbers′ m = (ts : List Topology) → Holds ts table → AllGood ts → Listed ts (rest ts) pairs pairs′ numbers numbers′ m
-
--- whatever the slices were at first, what is listed at one place is carried on to another: a loop's invariant does not know the function's entry
-abbrev pub Carries : Table → (List Topology → List Pair) → List ℕ → List ℕ → ℕ → (List Topology → List Pair) → List ℕ → List ℕ → ℕ → Type 0
-Carries table rest pairs numbers m rest′ pairs′ numbers′ m′ = (first first′ : List ℕ) → State table rest first pairs first′ numbers m → State table rest′ first pairs′ first′ numbers′ m′
-
--- ---- the table's trees
-module _ {table : Table} {pairs numbers : ℕ} (room : GraphRoom table pairs numbers) where
-  pub few-trees : table .len ≤ 160
-  few-trees = omega (arith, room .holds .count, room .few)
-
-  pub canonically : (i : ℕ) → i < table .len → Canonically (heldAt table i .node)
-  canonically i lt =
-      let inside : i < length (room .trees) = omega (arith, room .holds .count) in
-      record { tree = treeOf (room .trees) i; good = good-at (room .trees) (room .good) i inside; held = room .holds .each i inside }
-
--- two of them, the one at i before that at j, and what their test answered
-pub record Tested (table : Table) (i j : ℕ) (r : Bool) : Type 0 where
-  pub ordered : i < j
-  pub inside : j < table .len
-  pub told : (t u : Topology) → Good t → Good u → heldAt table i .node ≡ hold (canon t) → heldAt table j .node ≡ hold (canon u) → Says r (Apart t u)
-
--- two tests of the same have one answer
-same-answer : (b r : Bool) (P : Type 0) → T b ↔ P → Says r P → b ≡ r
-same-answer true true P f s = refl
-same-answer true false P f s = absurd (s (f .0 tt))
-same-answer false true P f s = absurd (f .1 s)
-same-answer false false P f s = refl
-
-answers : {table : Table} {i j : ℕ} {r : Bool} → Tested table i j r → (ts : List Topology) → Holds ts table → AllGood ts → linked? ts i j ≡ r
-answers {i} {j} {r} x ts h g =
-    let t = treeOf ts i in
-    let u = treeOf ts j in
-    let inside : j < length ts = omega (arith, x .inside, h .count) in
-    let inside′ : i < length ts = omega (arith, x .ordered) in
-    let G = good-at ts g i inside′ in
-    let G′ = good-at ts g j inside in
-    same-answer (apart? t u) r (Apart t u) (apart-iff t u (G .distinct) (G′ .distinct)) (x .told t u G G′ (h .each i inside′) (h .each j inside))
-
--- ---- bounds, where all the pairs are those listed and some more
-module _ {k : ℕ} {L : ℕ → ℕ → Type 0} {all : List Pair} (H : Listing k L all) where
-  pairs-below : k ≤ 160 → (ps : List Pair) (p : Pair) (rest : List Pair) → (ps ++ (p ∷ [])) ++ rest ≡ all → length ps < 12720
-  pairs-below few ps p rest e = omega (arith, listing-few H few, simp length-append at (ap length e))
-
-  count-below : {numbers numbers′ : List ℕ} (ps rest : List Pair) → ps ++ rest ≡ all → k ≤ length numbers → Wrote (counts k ps) numbers numbers′ 0 k → (x : ℕ) → x < k → getD numbers′ x 0 < k
-  count-below {numbers} ps rest e fits w x lt =
-      let long = counts-length k ps in
-      omega (
-        arith,
-        ap (λ (ns : List ℕ). getD ns x 0) (w .bytes),
-        sets-at numbers (counts k ps) (omega arith) x (omega arith),
-        counts-at k ps x lt,
-        neighbours-append ps rest x,
-        ap (λ (qs : List Pair). neighbours qs x) e,
-        neighbours-le H x lt,
-      )
-
--- ---- the turns
--- nothing is listed yet
-pub none-listed : {table : Table} {pairs numbers numbers′ : List ℕ} → Wrote (replicate (table .len) 0) numbers numbers′ 0 (table .len) → State table (rows 0) pairs pairs numbers numbers′ 0
+-- nothing is listed
+pub none-listed : {memory : GraphMemory} {m : ℕ} → Listed [] memory memory m m
 unfolding flat
-none-listed cleared ts h g = record {
-  linked = [];
-  all = refl;
-  many = refl;
-  in-pairs = record { behind = refl; bytes = refl };
-  in-counts = rw counts-none (rw (h .count) at cleared);
+none-listed = record { next = omega arith; listed = record { behind = omega arith; cells = refl }; counted = refl }
+
+-- one pair is
+pub pair-listed : {memory memory′ : GraphMemory} {m i j r : ℕ} → PairAdded memory memory′ m i j r → Listed ((i, j) ∷ []) memory memory′ m r
+pair-listed {memory} {m} {i} {j} added = record { next = added .next; listed = rw (added .next, added .listed) (wrote-pair (memory .pairs) m i j); counted = added .counted }
+
+-- one list of pairs after another
+both-listed : {ps qs : List Pair} {memory memory′ memory″ : GraphMemory} {m m′ m″ : ℕ} → Listed ps memory memory′ m m′ → Listed qs memory′ memory″ m′ m″
+    → Listed (ps ++ qs) memory memory″ m m″
+both-listed {ps} {qs} {memory} a b = record {
+  next = omega (arith, length-append ps qs);
+  listed = rw flat-append (wrote-more (a .listed) (b .listed));
+  counted = b .counted ∙ ap (λ (ns : List ℕ). tally ns qs) (a .counted) ∙ sym (tally-append (memory .counts) ps qs);
 }
 
--- the slices and the number are said another way
-pub same-state : {table : Table} (rest : List Topology → List Pair) {first first′ pairs pairs′ numbers numbers′ : List ℕ} {m m′ : ℕ} → pairs ≡ pairs′ → numbers ≡ numbers′ → m ≡ m′
-    → State table rest first pairs′ first′ numbers′ m′ → State table rest first pairs first′ numbers m
-same-state rest e e′ e″ s = rw (e, e′, e″) s
+-- of the pairs `all` those before `rest` are listed
+pub record Part (all rest : List Pair) (memory memory′ : GraphMemory) (m m′ : ℕ) : Type 0 where
+  pub done : List Pair
+  pub whole : done ++ rest ≡ all
+  pub listed : Listed done memory memory′ m m′
 
--- and so is what is left
-rest-is : {ts : List Topology} {rest rest′ : List Pair} {pairs pairs′ numbers numbers′ : List ℕ} {m : ℕ} → ((out : List Pair) → out ++ rest ≡ pairsIn ts → out ++ rest′ ≡ pairsIn ts)
-    → Listed ts rest pairs pairs′ numbers numbers′ m → Listed ts rest′ pairs pairs′ numbers numbers′ m
-rest-is f l = record { linked = l .linked; all = f (l .linked) (l .all); many = l .many; in-pairs = l .in-pairs; in-counts = l .in-counts }
+module _ {all rest : List Pair} {memory memory′ : GraphMemory} {m m′ : ℕ} (part : Part all rest memory memory′ m m′) where
+  -- the next pairs are listed
+  pub part-more : {ps rest′ : List Pair} {memory″ : GraphMemory} {m″ : ℕ} → rest ≡ ps ++ rest′ → Listed ps memory′ memory″ m′ m″ → Part all rest′ memory memory″ m m″
+  part-more {ps} {rest′} e more = record {
+    done = part .done ++ ps;
+    whole = append-assoc (part .done) ps rest′ ∙ rw e at (part .whole);
+    listed = both-listed (part .listed) more;
+  }
 
-module _ {table : Table} {pairs pairs′ numbers numbers′ : List ℕ} {m : ℕ} where
+  -- all are
+  pub part-ends : rest ≡ [] → Listed all memory memory′ m m′
+  part-ends e =
+      let whole : part .done ≡ all = sym (append-nil (part .done)) ∙ rw e at (part .whole) in
+      rw whole at (part .listed)
+
   -- the slices keep their lengths
-  module _ {rest : List Topology → List Pair} (room : GraphRoom table (length pairs) (length numbers)) (s : State table rest pairs pairs′ numbers numbers′ m) where
-    abbrev some-listed : Listed (room .trees) (rest (room .trees)) pairs pairs′ numbers numbers′ m
-    some-listed = s (room .trees) (room .holds) (room .good)
+  pub pairs-length : length (memory′ .pairs) ≡ length (memory .pairs)
+  pairs-length = wrote-length (part .listed .listed)
 
-    pub pairs-length : length pairs′ ≡ length pairs
-    pairs-length = wrote-length (some-listed .in-pairs)
+  pub numbers-length : length (memory′ .counts) ≡ length (memory .counts)
+  numbers-length = ap length (part .listed .counted) ∙ tally-length (memory .counts) (part .done)
 
-    pub numbers-length : length numbers′ ≡ length numbers
-    numbers-length = wrote-length (some-listed .in-counts)
+  -- and have room for the next pairs
+  pub next-room : {k : ℕ} {ps : List Pair} (behind : List Pair) → rest ≡ ps ++ behind → PairsRoom k all memory m → PairsRoom k ps memory′ m′
+  next-room behind e room =
+      let long = simp length-append at (ap length (part .whole)) in
+      let long′ = simp length-append at (ap length e) in
+      record {
+        few = room .few;
+        pairs-room = omega (arith, pairs-length, part .listed .next, room .pairs-room);
+        counts-room = omega (arith, numbers-length, room .counts-room);
+        grow = λ x lt. omega (arith, ap (λ (ns : List ℕ). getD ns x 0) (part .listed .counted), tally-le (memory .counts) (part .done) x, room .grow x lt);
+      }
 
-    -- so there is room for the counts of all trees
-    pub counts-fit : table .len ≤ length numbers′
-    counts-fit = omega (arith, few-trees room, room .counts-room, numbers-length)
+-- room for one pair
+pub pair-room : {k m i j : ℕ} {memory : GraphMemory} → i < j → j < k → PairsRoom k ((i, j) ∷ []) memory m → PairRoom memory m i j
+pair-room {i} {j} {memory} h l room = record {
+  room = omega (arith, room .pairs-room);
+  ordered = h;
+  inside = omega (arith, room .counts-room);
+  small = omega (arith, room .few);
+  grows = omega (arith, room .grow i (omega arith));
+  grows′ = omega (arith, room .grow j l, more-le (memory .counts) i j);
+}
 
-  -- a row begins
-  pub row-begins : (i : ℕ) → i < table .len → State table (rows i) pairs pairs′ numbers numbers′ m → State table (cells i (i + 1)) pairs pairs′ numbers numbers′ m
-  row-begins i lt s ts h g = rest-is (λ out. left-begin (length ts) (linked? ts) out i (omega (arith, h .count))) (s ts h g)
+-- ---- the linked positions among k
+module _ (links : List ℕ) (k : ℕ) where
+  -- row i from column j on: with that column, or without it
+  pub row-takes : (i j : ℕ) → j < k → LinkedIn links i j → rowOf i j k (linked? links) ≡ (i, j) ∷ rowOf i (j + 1) k (linked? links)
+  row-takes i j l e = rw (eq-eqb (getD links (i * 160 + j) 0) 1 e) at (row-step k (linked? links) i j l)
 
-  -- it ends
-  pub row-ends : (i j : ℕ) → table .len ≤ j → State table (cells i j) pairs pairs′ numbers numbers′ m → State table (rows (i + 1)) pairs pairs′ numbers numbers′ m
-  row-ends i j le s ts h g = rest-is (λ out. left-end (length ts) (linked? ts) out i j (omega (arith, h .count))) (s ts h g)
+  pub row-skips : (i j : ℕ) → j < k → ¬ LinkedIn links i j → rowOf i j k (linked? links) ≡ rowOf i (j + 1) k (linked? links)
+  row-skips i j l n = rw (ne-eqb (getD links (i * 160 + j) 0) 1 n) at (row-step k (linked? links) i j l)
 
-  -- all rows are done
-  pub all-written : (i : ℕ) → table .len ≤ i → State table (rows i) pairs pairs′ numbers numbers′ m → GraphWritten table pairs pairs′ numbers numbers′ m
-  all-written i le s ts h g =
-      let l = s ts h g in
-      let e : l .linked ≡ pairsIn ts = all-listed (length ts) (linked? ts) (l .linked) i (omega (arith, h .count)) (l .all) in
-      record { linked = l .linked; listing = rw e (pairs-listed ts g); many = l .many; in-pairs = l .in-pairs; in-counts = l .in-counts }
+  -- the rows together
+  abbrev allLinked : List Pair
+  allLinked = pairsOf k (linked? links)
 
-  module _ {i j : ℕ} {r : Bool} (x : Tested table i j r) (s : State table (cells i j) pairs pairs′ numbers numbers′ m) where
-    -- two trees are not one move apart
-    pub pair-passed : r ≡ false → State table (cells i (j + 1)) pairs pairs′ numbers numbers′ m
-    pair-passed e ts h g = rest-is (λ out. left-skip (length ts) (linked? ts) out i j (omega (arith, x .inside, h .count)) (answers x ts h g ∙ e)) (s ts h g)
+  -- are the listing of what the bytes link
+  links-listed : Listing k (LinkedIn links) allLinked
+  links-listed = listing-iff (λ i j _ _. (eqb→eq (getD links (i * 160 + j) 0) 1, λ e. rw e (eqb-refl 1))) (pairsOf-lists k (linked? links))
 
-    -- two trees are
-    module _ (e : r ≡ true) where
-      with-pair : (ts : List Topology) (h : Holds ts table) (g : AllGood ts) → (s ts h g .linked ++ ((i, j) ∷ [])) ++ cells i (j + 1) ts ≡ pairsIn ts
-      with-pair ts h g = left-take (length ts) (linked? ts) (s ts h g .linked) i j (omega (arith, x .inside, h .count)) (answers x ts h g ∙ e) (s ts h g .all)
+  module _ {memory : GraphMemory} {cleared : List ℕ} (few : k ≤ 160) (room : ListRoom memory) (zeros : Wrote (replicate k 0) (memory .counts) cleared 0 k) where
+    fits : k ≤ length (memory .counts)
+    fits = omega (arith, room .counts-room)
 
-      -- there is room for their pair: it is one of at most 12,720, and no tree has 160 neighbours
-      pub pair-room : GraphRoom table (length pairs) (length numbers) → PairRoom pairs′ numbers′ m i j
-      pair-room room =
-          let ts = room .trees in
-          let l = some-listed room s in
-          let H = pairs-listed ts (room .good) in
-          let few : length ts ≤ 160 = room .few in
-          let fits : length ts ≤ length numbers = omega (arith, room .counts-room) in
-          let inside : j < length ts = omega (arith, x .inside, room .holds .count) in
-          let inside′ : i < length ts = omega (arith, x .ordered) in
-          let below = count-below H (l .linked) (cells i j ts) (l .all) fits (l .in-counts) in
-          record {
-            room = omega (arith, l .many, pairs-length room s, room .pairs-room, pairs-below H few (l .linked) (i, j) (cells i (j + 1) ts) (with-pair ts (room .holds) (room .good)));
-            ordered = x .ordered;
-            inside = omega (arith, numbers-length room s);
-            small = omega arith;
-            grows = omega (arith, below i inside′);
-            grows′ = omega (arith, below j inside);
-          }
+    -- there is room for them: they are at most 12,720
+    pub all-room : PairsRoom k allLinked (record { pairs = memory .pairs; counts = cleared }) 0
+    all-room =
+        let most = listing-few links-listed few in
+        record {
+          few = few;
+          pairs-room = omega (arith, room .pairs-room);
+          counts-room = omega (arith, fits, wrote-length zeros);
+          grow = λ x lt. omega (arith, cleared-at fits zeros x lt);
+        }
 
-      -- then it is added
-      pub pair-added : {pairs″ numbers″ : List ℕ} → table .len ≤ length numbers′ → PairAdded pairs′ pairs″ numbers′ numbers″ m i j → State table (cells i (j + 1)) pairs pairs″ numbers numbers″ (m + 1)
-      pair-added {pairs″} fits added ts h g =
-          let l = s ts h g in
-          let fits′ : length ts ≤ length numbers = omega (arith, h .count, wrote-length (l .in-counts)) in
-          let pair : Wrote (i ∷ j ∷ []) pairs′ pairs″ (2 * length (l .linked)) (2 * length (l .linked) + 2) = rw (l .many) at (added .listed) in
-          record {
-            linked = l .linked ++ ((i, j) ∷ []);
-            all = with-pair ts h g;
-            many = omega (arith, l .many, length-append (l .linked) ((i, j) ∷ []));
-            in-pairs = flat-more (l .linked) i j (l .in-pairs) pair;
-            in-counts = rw (added .counted) (counts-more (length ts) (l .linked) i j (x .ordered) (omega (arith, x .inside, h .count)) fits′ (l .in-counts));
-          }
+    -- they are listed and counted
+    pub graph-listed : {memory′ : GraphMemory} {r : ℕ} → Listed allLinked (record { pairs = memory .pairs; counts = cleared }) memory′ 0 r → Graph k (LinkedIn links) memory memory′ r
+    graph-listed l = record {
+      linked = allLinked;
+      listing = links-listed;
+      many = omega (arith, l .next);
+      in-pairs = rw (l .next, zero-add) at (l .listed);
+      in-counts = rw (l .counted) (counts-written fits zeros links-listed);
+    }
+
+-- relations that agree have the same graph
+pub graph-iff : {k : ℕ} {L M : ℕ → ℕ → Type 0} {memory memory′ : GraphMemory} {r : ℕ} → ((i j : ℕ) → i < j → j < k → L i j ↔ M i j)
+    → Graph k L memory memory′ r → Graph k M memory memory′ r
+graph-iff f g = record { linked = g .linked; listing = listing-iff f (g .listing); many = g .many; in-pairs = g .in-pairs; in-counts = g .in-counts }

@@ -1,49 +1,104 @@
--- What listing a table's pairs asks of the lent slices, and what it leaves in them.
+-- Which positions are linked, as bytes; what listing the linked positions asks of the lent slices, and what it leaves in them.
 -- Assumes nothing.
 use mathlib.Core.Path.{_≡_}
+use mathlib.Core.Logic.{_↔_}
+use mathlib.Core.Bool.{Bool}
 use mathlib.Core.List.{List, [], _∷_}
 use Prim.Native.Nat.{ℕ, _+_, _*_, _≤_, _<_}
-use lib.ListN.{length, getD}
+use lib.Dec.{eqb}
+use lib.ListN.{length, getD, set}
+use Rattle.meaning.specs.Limits.{maxTrees, pairNumbers}
+use Rattle.meaning.specs.Lists.{more}
 use Rattle.meaning.specs.Tree.{Tree as Topology}
 use Rattle.meaning.specs.Move.{Apart}
 use Rattle.meaning.specs.Listing.{Pair, Listing, At, counts, flat}
-use Rattle.meaning.proofs.TableText.{AllGood}
-use Rattle.meaning.proofs.Counts.{more}
-use Rattle.held.specs.Held.{Wrote}
-use Rattle.tables.specs.declared.Table.{Table}
-use Rattle.tables.specs.Trees.{Holds}
+use Rattle.meaning.specs.Answer.{GraphMemory}
+use Rattle.lent.specs.Runs.{Wrote}
+use Rattle.held.specs.Kept.{KeepsAll, KeptAll}
+use Rattle.held.specs.declared.Table.{Table}
 
--- there is room for the pair of i and j as number m, and both counts can grow
-pub record PairRoom (pairs numbers : List ℕ) (m i j : ℕ) : Type 0 where
-  pub room : 2 * m + 2 ≤ length pairs
+-- ---- links
+-- a byte for each two positions of a table
+abbrev pub linkBytes : ℕ
+linkBytes = maxTrees * maxTrees
+
+-- the byte of row i and column j is 1
+abbrev pub LinkedIn : List ℕ → ℕ → ℕ → Type 0
+LinkedIn links i j = getD links (i * maxTrees + j) 0 ≡ 1
+
+-- the same as a test
+abbrev pub linked? : List ℕ → ℕ → ℕ → Bool
+linked? links i j = eqb (getD links (i * maxTrees + j) 0) 1
+
+-- among k positions the bytes show which are linked by L
+abbrev pub Shows : List ℕ → ℕ → (ℕ → ℕ → Type 0) → Type 0
+Shows links k L = (i j : ℕ) → i < j → j < k → LinkedIn links i j ↔ L i j
+
+-- ---- listing and counting
+-- the lent slices: for the pairs, and for the neighbour counts
+abbrev pub slices : List ℕ → List ℕ → GraphMemory
+slices pairs numbers = record { pairs = pairs; counts = numbers }
+
+-- each pair counted at both its positions
+abbrev pub tally : List ℕ → List Pair → List ℕ
+tally numbers [] = numbers
+tally numbers (p ∷ ps) = tally (more (more numbers (p .0)) (p .1)) ps
+
+-- there is room for the pair of i and j as number m, and the counts can grow by one at i, and then at j
+pub record PairRoom (memory : GraphMemory) (m i j : ℕ) : Type 0 where
+  pub room : 2 * m + 1 < length (memory .pairs)
   pub ordered : i < j
-  pub inside : j < length numbers
+  pub inside : j < length (memory .counts)
   pub small : j < 65536
-  pub grows : getD numbers i 0 < 65535
-  pub grows′ : getD numbers j 0 < 65535
+  pub grows : getD (memory .counts) i 0 < 65535
+  pub grows′ : getD (more (memory .counts) i) j 0 < 65535
 
--- the pair was listed, and both counts have grown by one
-pub record PairAdded (pairs pairs′ numbers numbers′ : List ℕ) (m i j : ℕ) : Type 0 where
-  pub listed : Wrote (i ∷ j ∷ []) pairs pairs′ (2 * m) (2 * m + 2)
-  pub counted : numbers′ ≡ more (more numbers i) j
+-- the pair was listed, the counts have grown, and r is the next number
+pub record PairAdded (memory memory′ : GraphMemory) (m i j r : ℕ) : Type 0 where
+  pub next : r ≡ m + 1
+  pub listed : memory′ .pairs ≡ set (set (memory .pairs) (2 * m) i) (2 * m + 1) j
+  pub counted : memory′ .counts ≡ more (more (memory .counts) i) j
 
--- the table has at most 160 trees, and the lent slices have room for the pairs and the counts of as many
-pub record GraphRoom (table : Table) (pairs numbers : ℕ) : Type 0 where
-  pub trees : List Topology
-  pub holds : Holds trees table
-  pub good : AllGood trees
-  pub few : length trees ≤ 160
-  pub pairs-room : 25440 ≤ pairs
-  pub counts-room : 160 ≤ numbers
+-- the pairs ps were listed as number m and on, and counted, and r is the next number
+pub record Listed (ps : List Pair) (memory memory′ : GraphMemory) (m r : ℕ) : Type 0 where
+  pub next : r ≡ m + length ps
+  pub listed : Wrote (flat ps) (memory .pairs) (memory′ .pairs) (2 * m) (2 * r)
+  pub counted : memory′ .counts ≡ tally (memory .counts) ps
 
--- r pairs of the trees ts are one move apart, and they and the neighbour counts were written
-pub record Graph (ts : List Topology) (pairs pairs′ numbers numbers′ : List ℕ) (r : ℕ) : Type 0 where
+-- there is room for pairs ps of k positions as number m and on, and all counts can grow by as much as they may
+pub record PairsRoom (k : ℕ) (ps : List Pair) (memory : GraphMemory) (m : ℕ) : Type 0 where
+  pub few : k ≤ maxTrees
+  pub pairs-room : 2 * (m + length ps) ≤ length (memory .pairs)
+  pub counts-room : k ≤ length (memory .counts)
+  pub grow : (x : ℕ) → x < k → getD (memory .counts) x 0 + 2 * length ps < 65536
+
+-- there is room for the pairs and the counts of as many positions as a table can have
+pub record ListRoom (memory : GraphMemory) : Type 0 where
+  pub pairs-room : pairNumbers ≤ length (memory .pairs)
+  pub counts-room : maxTrees ≤ length (memory .counts)
+
+-- r pairs of k positions are linked by L, and they and the neighbour counts were written
+pub record Graph (k : ℕ) (L : ℕ → ℕ → Type 0) (memory memory′ : GraphMemory) (r : ℕ) : Type 0 where
   pub linked : List Pair
-  pub listing : Listing (length ts) (At Apart ts) linked
+  pub listing : Listing k L linked
   pub many : r ≡ length linked
-  pub in-pairs : Wrote (flat linked) pairs pairs′ 0 (2 * length linked)
-  pub in-counts : Wrote (counts (length ts) linked) numbers numbers′ 0 (length ts)
+  pub in-pairs : Wrote (flat linked) (memory .pairs) (memory′ .pairs) 0 (2 * length linked)
+  pub in-counts : Wrote (counts k linked) (memory .counts) (memory′ .counts) 0 k
 
--- whatever trees the table holds, their graph was written
-abbrev pub GraphWritten : Table → List ℕ → List ℕ → List ℕ → List ℕ → ℕ → Type 0
-GraphWritten table pairs pairs′ numbers numbers′ r = (ts : List Topology) → Holds ts table → AllGood ts → Graph ts pairs pairs′ numbers numbers′ r
+-- ---- tables
+-- P is so of whatever trees the table keeps
+abbrev pub OfTrees : Table → (List Topology → Type 0) → Type 0
+OfTrees table P = (ts : List Topology) → KeepsAll table ts → P ts
+
+-- the bytes show which trees are one move apart
+abbrev pub MovesLinked : Table → List ℕ → Type 0
+MovesLinked table links = OfTrees table (λ ts. Shows links (length ts) (At Apart ts))
+
+-- the table keeps some trees, and there is room for the pairs and the counts of as many as a table can have
+pub record GraphRoom (table : Table) (memory : GraphMemory) : Type 0 where
+  pub kept : KeptAll table
+  pub room : ListRoom memory
+
+-- the graph of the trees was written
+abbrev pub GraphWritten : Table → GraphMemory → GraphMemory → ℕ → Type 0
+GraphWritten table memory memory′ r = OfTrees table (λ ts. Graph (length ts) (At Apart ts) memory memory′ r)

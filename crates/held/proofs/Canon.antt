@@ -1,22 +1,23 @@
--- The canonical order, fork by fork, the least labels that are noted for it, and what an array in that order holds.
+-- The canonical order, fork by fork, and the least labels that are noted for it.
 -- Assumes nothing.
 use mathlib.Core.Path.{_≡_, refl, sym, ap, ap₂, _∙_}
 use mathlib.Core.Bool.{Bool, cond}
 use mathlib.Core.List.{List, _++_, append-assoc}
-use Prim.Native.Nat.{ℕ, suc, _+_, _≤_, _<_, min}
+use Prim.Native.Nat.{ℕ, _+_, _≤_, _<_, min}
 use native.Mathlib.Omega.{arith}
 use native.Mathlib.Numerals.{add-one}
 use borrow.Author.Tests.{le-leb, lt-leb}
 use lib.Dec.{leb}
-use lib.ListN.{length, take, drop, getD, set, length-append}
+use lib.ListN.{length, take, drop, getD, set}
 use lib.Seq.{drop-at, length-take-le, sets, sets-eq, length-sets}
-use Rattle.meaning.specs.Tree.{Tree, leaf, fork, Good, leaves, least, canon}
+use Rattle.meaning.specs.Tree.{Tree, fork, leaves, least, canon}
 use Rattle.meaning.proofs.Same.{_≈_, one, same, swap, ≈-leaves}
-use Rattle.meaning.proofs.Canon.{canon-≈, canon-good}
-use Rattle.meaning.proofs.Length.{leaves-64}
-use Rattle.held.specs.Held.{nodes, pre, leasts, Holds, Wrote, Noted, Marks, hold}
-use Rattle.held.proofs.Laws.{head-is, head-in, next-is, skip, length-pre, twice, ForkAt, leafed, each-is, holding}
-use Rattle.held.proofs.Write.{sets-append, set-sets, wrote-one, wrote-fork}
+use Rattle.meaning.proofs.Canon.{canon-≈}
+use Rattle.lent.specs.Runs.{Wrote}
+use Rattle.lent.proofs.Runs.{sets-append, set-sets, wrote-one}
+use Rattle.held.specs.Held.{nodes, pre, leasts, Holds, Noted, Marks}
+use Rattle.held.proofs.Preorder.{length-preorder, own-is, own-in, first-stands, second-stands}
+use Rattle.held.proofs.Laws.{length-pre, twice, ForkAt, leafed, each-is, wrote-fork}
 
 -- the canonical order keeps the least label, the leaves and the nodes
 ≈-least : {t u : Tree} → t ≈ u → least t ≡ least u
@@ -47,28 +48,27 @@ module _ (a b : Tree) where
   pub canon-swap : least b < least a → canon (fork a b) ≡ fork (canon b) (canon a)
   canon-swap h = canon-fork (lt-leb (least (canon a)) (least (canon b)) (omega (arith, least-canon a, least-canon b)))
 
-pub length-leasts : (t : Tree) → length (leasts t) ≡ nodes t
-length-leasts (leaf l) = refl
-length-leasts (fork a b) = ap suc (length-append (leasts a) (leasts b) ∙ ap₂ _+_ (length-leasts a) (length-leasts b))
+length-leasts : (t : Tree) → length (leasts t) ≡ nodes t
+length-leasts = length-preorder least
 
 -- a leaf's label is noted
 pub noted-leaf : {xs low : List ℕ} {k : ℕ} {t : Tree} → Holds xs k t → getD xs k 0 ≤ 64
     → (u : Tree) → Holds xs k u → Noted u low (set low k (getD xs k 0)) k (getD xs k 0)
 noted-leaf {xs} {low} {k} h small =
-    each-is (λ (u : Tree). Noted u low (set low k (getD xs k 0)) k (getD xs k 0)) h (leafed h small) (record { own = refl; bytes = refl })
+    each-is (λ (u : Tree). Noted u low (set low k (getD xs k 0)) k (getD xs k 0)) h (leafed h small) (record { own = refl; cells = refl })
 
 -- both subtrees' least labels are noted, and then the fork's own
 noted-both : (a b : Tree) (k : ℕ) {low l₁ l₂ : List ℕ} {x y : ℕ} → Noted a low l₁ (k + 1) x → Noted b l₁ l₂ (k + 1 + nodes a) y → l₂ ≡ sets low (k + 1) (leasts a ++ leasts b)
 noted-both a b k {low} p q =
-    q .bytes
-    ∙ ap₂ (λ (l : List ℕ) (j : ℕ). sets l (k + 1 + j) (leasts b)) (p .bytes) (sym (length-leasts a))
+    q .cells
+    ∙ ap₂ (λ (l : List ℕ) (j : ℕ). sets l (k + 1 + j) (leasts b)) (p .cells) (sym (length-leasts a))
     ∙ sym (sets-append low (k + 1) (leasts a) (leasts b))
 
 noted-own : (a b : Tree) {low l₂ : List ℕ} {k v : ℕ} → l₂ ≡ sets low (k + 1) (leasts a ++ leasts b) → v ≡ least (fork a b) → Noted (fork a b) low (set l₂ k v) k v
 noted-own a b {low} {k} both own =
     record {
       own = own;
-      bytes =
+      cells =
           ap₂ (λ (l : List ℕ) (w : ℕ). set l k w) both own
           ∙ sym (set-sets low k (k + 1) (least (fork a b)) (leasts a ++ leasts b) (omega arith))
           ∙ ap (λ (j : ℕ). sets (set low k (least (fork a b))) j (leasts a ++ leasts b)) (add-one k);
@@ -81,34 +81,22 @@ noted-fork {low} {l₂} {k} {v} f e p q m =
     (noted-own (f .first) (f .second) (noted-both (f .first) (f .second) k p (rw e at q)) (m ∙ ap₂ min (p .own) (q .own)))
 
 pub noted-length : {t : Tree} {low l₁ : List ℕ} {k x : ℕ} → Noted t low l₁ k x → length l₁ ≡ length low
-noted-length {t} {low} {k} p = ap length (p .bytes) ∙ length-sets low k (leasts t)
+noted-length {t} {low} {k} p = ap length (p .cells) ∙ length-sets low k (leasts t)
 
 -- labels that were noted stand there
 pub noted-marks : {t : Tree} {low l₁ : List ℕ} {k x : ℕ} → Noted t low l₁ k x → k + nodes t ≤ length low → Marks l₁ k t
 noted-marks {t} {low} {l₁} {k} p fits =
     let behind = drop (k + length (leasts t)) low in
     let room : k + length (leasts t) ≤ length low = omega (arith, length-leasts t) in
-    let e : l₁ ≡ take k low ++ (leasts t ++ behind) = p .bytes ∙ sets-eq (leasts t) low k room ∙ append-assoc (take k low) (leasts t) behind in
+    let e : l₁ ≡ take k low ++ (leasts t ++ behind) = p .cells ∙ sets-eq (leasts t) low k room ∙ append-assoc (take k low) (leasts t) behind in
     record { stands = (behind, ap (drop k) e ∙ drop-at (take k low) (leasts t ++ behind) k (length-take-le k low (omega arith))) }
 
 -- a node's least label, where they stand, and those of a fork's children
 pub mark-is : {low : List ℕ} {k : ℕ} {t : Tree} → Marks low k t → getD low k 0 ≡ least t
-mark-is {low} {k} {t = leaf l} h = head-is low k l (h .stands .0) (h .stands .1)
-mark-is {low} {k} {t = fork a b} h = head-is low k (least (fork a b)) ((leasts a ++ leasts b) ++ h .stands .0) (h .stands .1)
+mark-is {low} {k} {t} h = own-is least 0 low k t (h .stands)
 
 pub mark-in : {low : List ℕ} {k : ℕ} {t : Tree} → Marks low k t → k < length low
-mark-in {low} {k} {t = leaf l} h = head-in low k l (h .stands .0) (h .stands .1)
-mark-in {low} {k} {t = fork a b} h = head-in low k (least (fork a b)) ((leasts a ++ leasts b) ++ h .stands .0) (h .stands .1)
-
-module _ {low : List ℕ} {k : ℕ} {a b : Tree} (h : Marks low k (fork a b)) where
-  marks-next : drop (k + 1) low ≡ leasts a ++ (leasts b ++ h .stands .0)
-  marks-next = next-is low k (least (fork a b)) ((leasts a ++ leasts b) ++ h .stands .0) (h .stands .1) ∙ append-assoc (leasts a) (leasts b) (h .stands .0)
-
-  marks-of-first : Marks low (k + 1) a
-  marks-of-first = record { stands = (leasts b ++ h .stands .0, marks-next) }
-
-  marks-of-second : Marks low (k + 1 + nodes a) b
-  marks-of-second = record { stands = (h .stands .0, rw length-leasts at (skip low (k + 1) (leasts a) (leasts b ++ h .stands .0) marks-next)) }
+mark-in {low} {k} {t} h = own-in least low k t (h .stands)
 
 -- a leaf is written as it is
 pub ordered-leaf : {xs out : List ℕ} {k at : ℕ} {t : Tree} → Holds xs k t → getD xs k 0 ≤ 64
@@ -130,11 +118,11 @@ module _ {xs low : List ℕ} {k : ℕ} {t : Tree} (f : ForkAt xs k t) (m : Marks
   marks-both = rw (f .is) at m
 
   pub marks-first : Marks low (k + 1) (f .first)
-  marks-first = marks-of-first marks-both
+  marks-first = record { stands = first-stands least low k (f .first) (f .second) (marks-both .stands) }
 
   module _ (w : ℕ) (e : w ≡ nodes (f .first)) where
     pub marks-second : Marks low (k + 1 + w) (f .second)
-    marks-second = rw e (marks-of-second marks-both)
+    marks-second = rw e (record { stands = second-stands least low k (f .first) (f .second) (marks-both .stands) })
 
     module _ {out o₁ o₂ : List ℕ} {at r₁ r₂ : ℕ} where
       pub ordered-keep : getD low (k + 1) 0 ≤ getD low (k + 1 + w) 0
@@ -146,9 +134,3 @@ module _ {xs low : List ℕ} {k : ℕ} {t : Tree} (f : ForkAt xs k t) (m : Marks
           → Wrote (pre (canon (f .second))) (set out at (getD xs k 0)) o₁ (at + 1) r₁ → Wrote (pre (canon (f .first))) o₁ o₂ r₁ r₂
           → (u : Tree) → Holds xs k u → Wrote (pre (canon u)) out o₂ at r₂
       ordered-swap lt = ordered f (f .second) (f .first) (canon-swap (f .first) (f .second) (omega (arith, mark-is marks-first, mark-is marks-second))) (omega arith)
-
--- ---- what an array that is a canonical form holds
-pub canon-holds : {xs : List ℕ} {t : Tree} → Good t → xs ≡ hold (canon t) → Holds xs 0 (canon t)
-canon-holds {t} G e =
-    let C = canon-good G in
-    rw e (holding (canon t) (C .small) (omega (arith, leaves-64 C, twice (canon t))))

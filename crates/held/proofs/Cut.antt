@@ -9,10 +9,11 @@ use lib.ListN.{length, getD, set, replicate}
 use Rattle.meaning.specs.Tree.{Tree, leaf, fork, leaves, In, Small, canon, Canonical}
 use Rattle.meaning.specs.Move.{Prune, first, second, in-first, in-second, Cut, deeper, cuts, cutAt}
 use Rattle.meaning.proofs.Cuts.{cut-first, cut-in-first, cut-second, cut-in-second}
-use Rattle.meaning.proofs.Moves.{At, prune-in, numbered, cut-prune, cuts-length}
-use Rattle.held.specs.Held.{nodes, pre, Holds, Wrote, hold, cutIn, HasCut, Cuts}
-use Rattle.held.proofs.Laws.{length-pre, twice, some-leaves, children, ForkAt, fork-nodes, forked-by, inside, each, second-at, holding}
-use Rattle.held.proofs.Write.{wrote-fork}
+use Rattle.meaning.proofs.Lists.{numbered}
+use Rattle.meaning.proofs.Moves.{IsCut, prune-in, cut-prune, cuts-length}
+use Rattle.lent.specs.Runs.{Wrote}
+use Rattle.held.specs.Held.{nodes, pre, Holds, hold, cutIn, HasCut, Cuts}
+use Rattle.held.proofs.Laws.{length-pre, twice, some-leaves, children, ForkAt, fork-nodes, forked-by, inside, each, second-at, holding, wrote-fork}
 
 -- the default of a list of cuts, which no cut's number reaches
 abbrev whole : Tree → Cut
@@ -45,7 +46,7 @@ prune-canonical (in-first p) h = prune-canonical p (h .0)
 prune-canonical (in-second p) h = prune-canonical p (h .1)
 
 module _ (t : Tree) (c : ℕ) (h : c < length (cuts t)) where
-  pub cut-is : At t (cutIn t c)
+  pub cut-is : IsCut t (cutIn t c)
   cut-is = cut-prune t (numbered (cuts t) (whole t) c h)
 
   pub cut-leaves : leaves (cutIn t c .rest) + leaves (cutIn t c .pruned) ≡ leaves t
@@ -235,5 +236,5 @@ module _ {xs : List ℕ} {c : ℕ} (h : HasCut xs c) where
         → (t : Tree) → Holds xs 0 t → Holds out 0 (cutIn t c .rest)
     rest-holds {out} wrote =
         let rest : Tree = cutIn (h .tree) c .rest in
-        let e : out ≡ hold rest = rw node-is at (wrote (h .tree) (h .holds) .bytes) in
+        let e : out ≡ hold rest = rw node-is at (wrote (h .tree) (h .holds) .cells) in
         each (λ (t : Tree). Holds out 0 (cutIn t c .rest)) (h .holds) (rw e (holding rest (small-rest (h .tree) c (h .is-cut) (h .holds .small)) rest-fits))

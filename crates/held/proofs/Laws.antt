@@ -1,33 +1,19 @@
--- Held bytes: what stands at a leaf and at a fork, that bytes hold one tree, and what a whole array holds.
+-- Held bytes: what stands at a leaf and at a fork, that bytes hold one tree, and what a whole array and a written fork hold.
 -- Assumes nothing.
 use mathlib.Core.Path.{_≡_, refl, sym, ap, ap₂, subst, _∙_}
 use mathlib.Core.List.{List, _∷_, _++_, append-assoc}
-use Prim.Native.Nat.{ℕ, suc, _+_, _*_, _-_, _≤_, _<_}
-use native.Mathlib.Nat.{add-zero, zero-add}
+use Prim.Native.Nat.{ℕ, _+_, _*_, _-_, _≤_, _<_}
 use native.Mathlib.Omega.{arith}
-use lib.ListN.{length, take, drop, getD, replicate, length-append, length-drop}
-use lib.Seq.{drop-drop, drop-append-seam, take-append-seam, getD-drop, sets-eq}
+use lib.ListN.{length, take, drop, getD, set, replicate, length-append, length-drop}
+use lib.Seq.{take-append-seam}
 use Rattle.meaning.specs.Tree.{Tree, leaf, fork, leaves, In, tip, Small}
-use Rattle.held.specs.Held.{nodes, pre, Holds, hold}
-
--- a list that from k on begins with y
-module _ (xs : List ℕ) (k y : ℕ) (ys : List ℕ) (e : drop k xs ≡ y ∷ ys) where
-  pub head-is : getD xs k 0 ≡ y
-  head-is = ap (λ (i : ℕ). getD xs i 0) (sym (add-zero k)) ∙ sym (getD-drop k xs 0 0) ∙ ap (λ (l : List ℕ). getD l 0 0) e
-
-  pub head-in : k < length xs
-  head-in = omega (arith, length-drop k xs, ap length e)
-
-  pub next-is : drop (k + 1) xs ≡ ys
-  next-is = sym (drop-drop 1 k xs) ∙ ap (drop 1) e
-
--- and one that begins with the run ys
-pub skip : (xs : List ℕ) (k : ℕ) (ys zs : List ℕ) → drop k xs ≡ ys ++ zs → drop (k + length ys) xs ≡ zs
-skip xs k ys zs e = sym (drop-drop (length ys) k xs) ∙ ap (drop (length ys)) e ∙ drop-append-seam ys zs
+use Rattle.lent.specs.Runs.{Wrote}
+use Rattle.lent.proofs.Runs.{sets-start, wrote-one, wrote-more}
+use Rattle.held.specs.Held.{nodes, byte, pre, Holds, hold}
+use Rattle.held.proofs.Preorder.{length-preorder, own-is, first-stands, second-stands}
 
 pub length-pre : (t : Tree) → length (pre t) ≡ nodes t
-length-pre (leaf l) = refl
-length-pre (fork a b) = ap suc (length-append (pre a) (pre b) ∙ ap₂ _+_ (length-pre a) (length-pre b))
+length-pre = length-preorder byte
 
 -- a tree has one node fewer than twice its leaves
 pub twice : (t : Tree) → nodes t + 1 ≡ 2 * leaves t
@@ -50,19 +36,17 @@ small-second s l i = s l (In.second i)
 
 -- a held leaf's byte, and a held fork's
 leaf-byte : {xs : List ℕ} {k l : ℕ} → Holds xs k (leaf l) → getD xs k 0 ≡ l
-leaf-byte {xs} {k} {l} h = head-is xs k l (h .stands .0) (h .stands .1)
+leaf-byte {xs} {k} {l} h = own-is byte 0 xs k (leaf l) (h .stands)
 
 fork-byte : {xs : List ℕ} {k : ℕ} {a b : Tree} → Holds xs k (fork a b) → getD xs k 0 ≡ 64 + (leaves a + leaves b)
-fork-byte {xs} {k} {a} {b} h = head-is xs k (64 + (leaves a + leaves b)) ((pre a ++ pre b) ++ h .stands .0) (h .stands .1)
+fork-byte {xs} {k} {a} {b} h = own-is byte 0 xs k (fork a b) (h .stands)
 
 -- a held fork's children are held
 pub children : {xs : List ℕ} {k : ℕ} {a b : Tree} → Holds xs k (fork a b) → Holds xs (k + 1) a × Holds xs (k + 1 + nodes a) b
-children {xs} {k} {a} {b} h =
-    let behind = h .stands .0 in
-    let e : drop (k + 1) xs ≡ pre a ++ (pre b ++ behind) = next-is xs k (64 + (leaves a + leaves b)) ((pre a ++ pre b) ++ behind) (h .stands .1) ∙ append-assoc (pre a) (pre b) behind in (
-      record { small = small-first (h .small); stands = (pre b ++ behind, e) },
-      record { small = small-second (h .small); stands = (behind, rw length-pre at (skip xs (k + 1) (pre a) (pre b ++ behind) e)) },
-    )
+children {xs} {k} {a} {b} h = (
+  record { small = small-first (h .small); stands = first-stands byte xs k a b (h .stands) },
+  record { small = small-second (h .small); stands = second-stands byte xs k a b (h .stands) },
+)
 
 -- the tree t that is held at k is a fork
 pub record ForkAt (xs : List ℕ) (k : ℕ) (t : Tree) : Type 0 where
@@ -149,10 +133,10 @@ module _ {xs : List ℕ} {k : ℕ} {t : Tree} (f : ForkAt xs k t) where
 -- what a whole array holds
 pub holding : (t : Tree) → Small t → nodes t ≤ 127 → Holds (hold t) 0 t
 holding t s fits =
-    let behind : List ℕ = drop (length (pre t)) (replicate 127 0) in
-    let e : hold t ≡ pre t ++ behind = rw zero-add at (sets-eq (pre t) (replicate 127 0) 0 (omega (arith, length-pre t))) in
-    record { small = s; stands = (behind, e) }
+    record { small = s; stands = (drop (length (pre t)) (replicate 127 0), sets-start (replicate 127 0) (pre t) (omega (arith, length-pre t))) }
 
--- equal arrays hold equal trees
-pub hold-inj : {t u : Tree} → Small t → Small u → nodes t ≤ 127 → nodes u ≤ 127 → hold t ≡ hold u → t ≡ u
-hold-inj {t} {u} s r fits fits′ e = unique (holding t s fits) (rw e (holding u r fits′))
+-- a fork's byte is written, then its two subtrees
+pub wrote-fork : (a b : Tree) {v : ℕ} {out o₁ o₂ : List ℕ} {at r₁ r₂ : ℕ} → v ≡ 64 + (leaves a + leaves b)
+    → Wrote (pre a) (set out at v) o₁ (at + 1) r₁ → Wrote (pre b) o₁ o₂ r₁ r₂ → Wrote (pre (fork a b)) out o₂ at r₂
+wrote-fork a b {v} {out} {o₂} {at} {r₂} e p q =
+    subst (λ (w : ℕ). Wrote (w ∷ (pre a ++ pre b)) out o₂ at r₂) e (wrote-more (wrote-one out at v) (wrote-more p q))

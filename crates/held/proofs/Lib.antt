@@ -1,4 +1,6 @@
-pub mod Laws
-pub mod Write
 pub mod Canon
 pub mod Cut
+pub mod Kept
+pub mod Labels
+pub mod Laws
+pub mod Preorder

@@ -1,26 +1,33 @@
--- How a tree is held: its nodes in preorder, one byte each; and what writing it into lent memory leaves.
+-- How a tree is held: its nodes in preorder, one byte each; and what the walks down a held tree ask and leave.
 -- Assumes nothing.
 use mathlib.Core.Path.{_≡_}
 use mathlib.Core.List.{List, [], _∷_, _++_}
-use Prim.Native.Nat.{ℕ, suc, _+_, _-_, _≤_, _<_, min}
+use Prim.Native.Nat.{ℕ, suc, _+_, _-_, _≤_, _<_}
 use lib.Seq.{sets}
-use lib.ListN.{length, drop, getD, replicate}
+use lib.ListN.{length, getD, replicate}
+use Rattle.meaning.specs.Limits.{maxLabel, maxNodes}
 use Rattle.meaning.specs.Tree.{Tree, leaf, fork, leaves, Small, least}
 use Rattle.meaning.specs.Move.{Cut, cuts}
+use Rattle.lent.specs.Runs.{Stands}
 
 -- how many nodes a tree has
 abbrev pub nodes : Tree → ℕ
 nodes (leaf l) = 1
 nodes (fork a b) = suc (nodes a + nodes b)
 
--- the nodes in preorder: a leaf is its label, a fork 64 and the leaves below it
-abbrev pub pre : Tree → List ℕ
-pre (leaf l) = l ∷ []
-pre (fork a b) = (64 + (leaves a + leaves b)) ∷ (pre a ++ pre b)
+-- f of the subtree at each node, in preorder
+abbrev pub preorder : {A : Type 0} → (Tree → A) → Tree → List A
+preorder f (leaf l) = f (leaf l) ∷ []
+preorder f (fork a b) = f (fork a b) ∷ (preorder f a ++ preorder f b)
 
--- ys stands in xs from k on
-abbrev pub Stands : List ℕ → ℕ → List ℕ → Type 0
-Stands xs k ys = (behind : List ℕ) × (drop k xs ≡ ys ++ behind)
+-- a node's byte: a leaf's is its label, a fork's 64 and the leaves below it
+abbrev pub byte : Tree → ℕ
+byte (leaf l) = l
+byte (fork a b) = maxLabel + (leaves a + leaves b)
+
+-- the bytes of the nodes
+abbrev pub pre : Tree → List ℕ
+pre t = preorder byte t
 
 -- the bytes xs hold the tree t from the node k on
 pub record Holds (xs : List ℕ) (k : ℕ) (t : Tree) : Type 0 where
@@ -38,24 +45,18 @@ pub record Room (measure : Tree → ℕ) (xs : List ℕ) (k len : ℕ) : Type 0 
   pub holds : Holds xs k tree
   pub room : measure tree ≤ len
 
--- ys was written over out from `at` on, which left out′, and r is the place behind it
-pub record Wrote (ys out out′ : List ℕ) (at r : ℕ) : Type 0 where
-  pub behind : r ≡ at + length ys
-  pub bytes : out′ ≡ sets out at ys
-
--- the array of 127 bytes that holds t and nothing else
+-- the array of as many bytes as a tree can have nodes that holds t and nothing else
 abbrev pub hold : Tree → List ℕ
-hold t = sets (replicate 127 0) 0 (pre t)
+hold t = sets (replicate maxNodes 0) 0 (pre t)
 
--- the least label at and below each node, in preorder
+-- the least label at and below each node
 abbrev pub leasts : Tree → List ℕ
-leasts (leaf l) = l ∷ []
-leasts (fork a b) = min (least a) (least b) ∷ (leasts a ++ leasts b)
+leasts t = preorder least t
 
 -- the least labels of t's nodes were written over low from k on, which left low′, and r is t's own
 pub record Noted (t : Tree) (low low′ : List ℕ) (k r : ℕ) : Type 0 where
   pub own : r ≡ least t
-  pub bytes : low′ ≡ sets low k (leasts t)
+  pub cells : low′ ≡ sets low k (leasts t)
 
 -- low has from k on the least label of each node of t
 pub record Marks (low : List ℕ) (k : ℕ) (t : Tree) : Type 0 where

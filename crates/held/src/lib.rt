@@ -1,10 +1,17 @@
 // A held rooted binary tree: its nodes in preorder, one byte each. A leaf's byte is its label, 1 to 64; a fork's is 64 and
-// the number of leaves below it. A fork's first child is the next node, and a subtree is one run of bytes.
+// the number of leaves below it. A fork's first child is the next node, and a subtree is one run of bytes. And a table of them.
 ghost use mathlib.Core.Path.{_≡_};
-ghost use Prim.Native.Nat.{_+_, _-_, _≤_};
-ghost use lib.ListN.{length, take, drop, replicate};
+ghost use mathlib.Core.List.{[], _∷_};
+ghost use Prim.Native.Nat.{_+_, _-_, _≤_, _<_};
+ghost use lib.ListN.{length, replicate};
+ghost use Rattle.meaning.specs.Limits.{maxNodes, maxTrees};
+ghost use Rattle.meaning.specs.Lists.{within};
 ghost use Rattle.meaning.specs.Tree.{Tree as Topology, leaves as leavesOf, canon};
-ghost use Rattle.held.specs.Held.{Holds, Held, Room, Wrote, Noted, Marked, Cuts, HasCut, nodes, pre, hold, cutIn};
+ghost use Rattle.meaning.specs.Reading.{sameLabels};
+ghost use Rattle.lent.specs.Runs.{Wrote};
+ghost use Rattle.held.specs.Held.{Holds, Held, Room, Noted, Marked, Cuts, HasCut, nodes, pre, hold, cutIn};
+ghost use Rattle.held.specs.Kept.{Keeps, KeepsAll, Adds};
+ghost use Rattle.held.specs.Labels.{labelsIn};
 
 // A tree in canonical order: equal bytes are equal topologies, and node number c + 1 is cut number c.
 pub struct Tree {
@@ -16,26 +23,26 @@ impl Tree {
     pub const MAX_LABEL: u8 = 64;
 
     // A tree of n leaves has 2n - 1 nodes.
-    pub const MAX_NODES: usize = 127;
+    pub const MAX_NODES: usize = 2 * (Tree::MAX_LABEL as usize) - 1;
 
     // Brackets that are open at once: 64 leaves never need more.
-    pub const MAX_OPEN: usize = 63;
+    pub const MAX_OPEN: usize = (Tree::MAX_LABEL as usize) - 1;
 
     // Nodes of a text that may yet be refused: 64 labels, 63 forks that are closed and 64 that are not.
-    pub const MAX_DRAFT: usize = 191;
+    pub const MAX_DRAFT: usize = Tree::MAX_OPEN + 2 * (Tree::MAX_LABEL as usize);
 
     // A fork's byte is this and the leaves below it.
     pub const FORK: u8 = Tree::MAX_LABEL;
 
     // Bytes of a tree text, of the longest canonical text and of the longest forest text.
-    pub const MAX_TEXT: usize = 65535;
+    pub const TEXT_BYTES: usize = 65535;
 
-    pub const MAX_FORM: usize = 309;
+    pub const FORM_BYTES: usize = 309;
 
-    pub const MAX_FOREST: usize = 307;
+    pub const FOREST_BYTES: usize = 307;
 
     pub fn empty() -> Self
-        ensures { λ r. ⌜ r .node ≡ replicate 127 0 ⌝ }
+        ensures { λ r. ⌜ r .node ≡ replicate maxNodes 0 ⌝ }
     {
         Self {
             node: [0u8; Tree::MAX_NODES],
@@ -44,7 +51,7 @@ impl Tree {
 
     // The tree that n holds, in canonical order.
     pub fn canonical(n: &[u8]) -> Self
-        requires { ⌜ Room nodes (now n) 0 127 ⌝ }
+        requires { ⌜ Room nodes (now n) 0 maxNodes ⌝ }
         ensures { λ r. ⌜ ((t : Topology) → Holds (now (n .entry)) 0 t → r .node ≡ hold (canon t)) ⌝ }
     {
         let mut low = [0u8; Tree::MAX_NODES];
@@ -63,6 +70,43 @@ impl Tree {
         let mut left = [0u8; Tree::MAX_NODES];
         cut_node(&mut left, 0, &n, 0, c + 1, leaves(&n, c + 1));
         Tree::canonical(&left)
+    }
+}
+
+// The first `len` trees are the table's.
+pub struct Table {
+    pub trees: [Tree; Table::MAX_TREES],
+    pub len: usize,
+}
+
+impl Table {
+    // More trees are refused.
+    pub const MAX_TREES: usize = 160;
+
+    // Bytes lent to the table call: a canonical text for each tree.
+    pub const TEXT_BYTES: usize = Table::MAX_TREES * Tree::FORM_BYTES;
+
+    // Numbers lent for pairs: i and j of each two trees.
+    pub const PAIR_NUMBERS: usize = Table::MAX_TREES * (Table::MAX_TREES - 1);
+
+    pub fn empty() -> Self
+        ensures { λ r. ⌜ KeepsAll r [] ⌝ }
+    {
+        Self {
+            trees: [Tree::empty(); Table::MAX_TREES],
+            len: 0,
+        }
+    }
+
+    // The table goes in and out by value, 20 KB: this is for once a tree, not for inner loops.
+    pub fn push(mut self, tree: Tree) -> Self
+        requires { ⌜ self .len < maxTrees ⌝ }
+        ensures { λ r. ⌜ Adds self tree r ⌝ }
+    {
+        let at = self.len;
+        self.trees[at] = tree;
+        self.len = at + 1;
+        self
     }
 }
 
@@ -124,32 +168,21 @@ fn order(out: &mut [u8], at: usize, n: &[u8], low: &[u8], k: usize) -> usize
     }
 }
 
-// Copies `count` bytes of n from `from` on into `out` from `at` on; returns the place behind them.
-pub fn copy(out: &mut [u8], at: usize, n: &[u8], from: usize, count: usize) -> usize
-    requires { ⌜ (at + count ≤ length (now out)) × (from + count ≤ length (now n)) ⌝ }
-    ensures { λ r. ⌜ Wrote (take count (drop from (now (n .entry)))) (now (out .entry)) (now (out .exit)) at r ⌝ }
-{
-    let mut i = 0;
-    while i < count {
-        out[at + i] = n[from + i];
-        i += 1;
-    }
-    at + count
-}
-
 // Copies the subtree at k into `out` from `at` on; returns the place behind it.
 fn copy_node(out: &mut [u8], at: usize, n: &[u8], k: usize) -> usize
     requires { ⌜ Room (λ t. at + nodes t) (now n) k (length (now out)) ⌝ }
     ensures { λ r. ⌜ ((t : Topology) → Holds (now (n .entry)) k t → Wrote (pre t) (now (out .entry)) (now (out .exit)) at r) ⌝ }
 {
-    copy(out, at, n, k, width(n, k))
+    lent::copy(out, at, n, k, width(n, k))
 }
 
 // Writes what is left of the subtree at k without the subtree at the node c below it, which has `gone` leaves, into `out`
 // from `at` on; returns the place behind it. The fork that c hung from is closed up.
 fn cut_node(out: &mut [u8], at: usize, n: &[u8], k: usize, c: usize, gone: u8) -> usize
     requires { ⌜ Cuts (now n) k (length (now out)) at c gone ⌝ }
-    ensures { λ r. ⌜ ((t : Topology) → Holds (now (n .entry)) k t → Wrote (pre (cutIn t (c - (k + 1)) .rest)) (now (out .entry)) (now (out .exit)) at r) ⌝ }
+    ensures { λ r. ⌜
+        ((t : Topology) → Holds (now (n .entry)) k t
+        → Wrote (pre (cutIn t (c - (k + 1)) .rest)) (now (out .entry)) (now (out .exit)) at r) ⌝ }
 {
     let first = k + 1;
     let second = first + width(n, first);
@@ -167,4 +200,43 @@ fn cut_node(out: &mut [u8], at: usize, n: &[u8], k: usize, c: usize, gone: u8) -
         let next = copy_node(out, at + 1, n, first);
         cut_node(out, next, n, second, c, gone)
     }
+}
+
+// Whether a byte is no label (a fork's, or the 0 behind a tree's nodes) or a label among the nodes n.
+fn has(n: &[u8], b: u8) -> bool
+    ensures { λ r. ⌜ r ≡ within (labelsIn (b ∷ [])) (labelsIn (now (n .entry))) ⌝ }
+{
+    if b == 0 {
+        return true;
+    }
+    if Tree::MAX_LABEL < b {
+        return true;
+    }
+    lent::contains(n, n.len(), lent::wide(b))
+}
+
+// Whether each label among the nodes n is one among the nodes m.
+fn covered(n: &[u8], m: &[u8]) -> bool
+    ensures { λ r. ⌜ r ≡ within (labelsIn (now (n .entry))) (labelsIn (now (m .entry))) ⌝ }
+{
+    let mut i = 0;
+    while i < n.len() {
+        if !has(m, n[i]) {
+            return false;
+        }
+        i += 1;
+    }
+    true
+}
+
+// A held tree's labels are the bytes 1 to 64 of its array: each of one tree's is looked for in the other.
+pub fn same_labels(a: Tree, b: Tree) -> bool
+    ensures { λ r. ⌜ ((t u : Topology) → Keeps a t → Keeps b u → r ≡ sameLabels t u) ⌝ }
+{
+    let first = a.node;
+    let second = b.node;
+    if !covered(&first, &second) {
+        return false;
+    }
+    covered(&second, &first)
 }

@@ -1,29 +1,21 @@
 -- The test for equal label sets, and trees that have the label set of the first.
 -- Assumes nothing.
-use mathlib.Core.Path.{_≡_, refl}
+use mathlib.Core.Path.{_≡_, refl, sym}
 use mathlib.Core.Logic.{_↔_}
-use mathlib.Core.Bool.{true}
-use mathlib.Core.List.{List, [], _∷_, _++_, List·Memᴰ, List·Memᴰ·head, List·Memᴰ·tail, List·Memᴰ·not-nil, Memᴰ·cast}
-use Prim.Native.Nat.{ℕ}
+use mathlib.Core.Bool.{true, cond}
+use mathlib.Core.List.{List, [], _∷_, _++_, List·Memᴰ, List·Memᴰ·head}
+use Prim.Native.Nat.{ℕ, suc}
+use native.Mathlib.Omega.{arith}
+use Rattle.meaning.specs.Lists.{within}
 use Rattle.meaning.specs.Tree.{Tree, labels, _⊆_, SameClade}
-use Rattle.meaning.specs.Reading.{member, within, sameLabels, likeFirst}
+use Rattle.meaning.specs.Reading.{sameLabels, unlike, likeFirst}
+use Rattle.meaning.specs.Refusals.{unlikeRefusals}
 use Rattle.meaning.specs.Grammar.{Alike, AllAlike}
 use Rattle.meaning.proofs.Labels.{in-labels, labels-in}
-use Rattle.meaning.proofs.Scan.{and-left, and-right, member-in, in-member}
+use Rattle.meaning.proofs.Lists.{within-all, all-within}
+use Rattle.meaning.proofs.Logic.{and-left, and-right, cases, clash}
 
--- the test for each number of xs in ys says that it is there
-within-all : (xs ys : List ℕ) → within xs ys ≡ true → (l : ℕ) → List·Memᴰ l xs → List·Memᴰ l ys
-unfolding within
-within-all [] ys h l m = absurd (List·Memᴰ·not-nil m)
-within-all (x ∷ xs) ys h l (List·Memᴰ·head e) = Memᴰ·cast e (member-in x ys (and-left (member x ys) (within xs ys) h))
-within-all (x ∷ xs) ys h l (List·Memᴰ·tail m) = within-all xs ys (and-right (member x ys) (within xs ys) h) l m
-
-all-within : (xs ys : List ℕ) → ((l : ℕ) → List·Memᴰ l xs → List·Memᴰ l ys) → within xs ys ≡ true
-unfolding within
-all-within [] ys f = refl
-all-within (x ∷ xs) ys f = rw (in-member (f x (List·Memᴰ·head refl))) (all-within xs ys (λ l m. f l (List·Memᴰ·tail m)))
-
--- so it says which labels are in which tree, and which trees have the same
+-- the test says which labels are in which tree, and which trees have the same
 sub-iff : (t u : Tree) → (within (labels t) (labels u) ≡ true) ↔ (t ⊆ u)
 sub-iff t u = (
   λ e l i. labels-in u (within-all (labels t) (labels u) e l (in-labels i)),
@@ -38,6 +30,21 @@ same-labels-iff t u =
       λ c. rw (sub-iff t u .1 (c .0), sub-iff u t .1 (c .1)),
     )
 
+-- no line says that u can't stand beside t where they have the same labels
+pub unlike-iff : (t u : Tree) → (unlike t u ≡ 0) ↔ SameClade t u
+unlike-iff t u =
+    cases (λ d. (_≡_ {A = ℕ} (cond d 0 5) 0) ↔ SameClade t u) (sameLabels t u) (λ e. (λ _. same-labels-iff t u .0 e, λ _. refl))
+    (λ e. (λ z. absurd (omega arith), λ c. let f = same-labels-iff t u .1 c in clash cc))
+
+-- else the line is one of those that can
+pub unlike-line : (t u : Tree) {n : ℕ} → unlike t u ≡ suc n → List·Memᴰ (suc n) unlikeRefusals
+unlike-line t u {n} e =
+    cases (λ d. cond d 0 5 ≡ suc n → List·Memᴰ (suc n) unlikeRefusals) (sameLabels t u) (λ _ z. absurd (omega arith)) (λ _ z. List·Memᴰ·head (sym z)) e
+
+pub first-line : (ts : List Tree) (t : Tree) {n : ℕ} → likeFirst ts t ≡ suc n → List·Memᴰ (suc n) unlikeRefusals
+first-line [] t e = absurd (omega arith)
+first-line (first ∷ ts) t e = unlike-line first t e
+
 -- the trees us, behind the trees ts, have the label set of the first of all
 abbrev pub Like : List Tree → List Tree → Type 0
 Like [] us = AllAlike us
@@ -51,16 +58,16 @@ like-none (first ∷ ts) = tt
 
 module _ (t : Tree) (us : List Tree) where
   -- a tree that passes the test may come before others that are like the first
-  pub like-more : (ts : List Tree) → likeFirst ts t ≡ true → Like (ts ++ (t ∷ [])) us → Like ts (t ∷ us)
+  pub like-more : (ts : List Tree) → likeFirst ts t ≡ 0 → Like (ts ++ (t ∷ [])) us → Like ts (t ∷ us)
   unfolding AllAlike Alike
   like-more [] e h = h
-  like-more (first ∷ ts) e h = (same-labels-iff first t .0 e, h)
+  like-more (first ∷ ts) e h = (unlike-iff first t .0 e, h)
 
   -- and of trees that are like the first, the next passes the test, and the others may come behind it
-  pub like-first : (ts : List Tree) → Like ts (t ∷ us) → likeFirst ts t ≡ true
+  pub like-first : (ts : List Tree) → Like ts (t ∷ us) → likeFirst ts t ≡ 0
   unfolding AllAlike Alike
   like-first [] h = refl
-  like-first (first ∷ ts) h = same-labels-iff first t .1 (h .0)
+  like-first (first ∷ ts) h = unlike-iff first t .1 (h .0)
 
   pub like-rest : (ts : List Tree) → Like ts (t ∷ us) → Like (ts ++ (t ∷ [])) us
   unfolding AllAlike Alike

@@ -2,29 +2,34 @@
 -- Assumes nothing.
 use mathlib.Core.Path.{_≡_, refl, sym, subst}
 use mathlib.Core.Logic.{_↔_, _⊎_, inl, inr}
-use mathlib.Core.Bool.{Bool, true, false, cond, _&&_}
-use mathlib.Core.List.{List, [], _∷_, List·Memᴰ, List·Memᴰ·head, List·Memᴰ·tail}
+use mathlib.Core.Bool.{Bool, true, false, cond}
+use mathlib.Core.List.{List, List·Memᴰ}
 use Prim.Native.Nat.{ℕ, zero, suc, _-_, _*_, _≤_, _<_}
 use native.Mathlib.Omega.{arith}
-use native.Mathlib.Decide.{ℕ-discrete, decLe}
 use borrow.Author.Tests.{ltb-true}
-use lib.Dec.{T, ltb, leb}
+use lib.Dec.{T, eqb, ltb}
 use lib.ListN.{length}
-use Rattle.meaning.specs.Tree.{Tree, Good, SameClade, leaves}
+use Rattle.meaning.specs.Limits.{textBytes}
+use Rattle.meaning.specs.Lists.{any}
+use Rattle.meaning.specs.Tree.{Tree, Distinct, Good, AllGood, SameClade, leaves}
 use Rattle.meaning.specs.Move.{Apart}
-use Rattle.meaning.specs.Reading.{Read, got, refused, readTree, readTable, sameLabels}
+use Rattle.meaning.specs.Reading.{Read, got, refused, readTree, readTable, unlike}
+use Rattle.meaning.specs.Refusals.{treeRefusals, formRefusals, cutRefusals, pairRefusals, tableCallRefusals, sheetRefusals}
 use Rattle.meaning.specs.Grammar.{OneText, TableText}
 use Rattle.meaning.specs.Listing.{Pair, Listing, At, treeOf}
+use Rattle.meaning.specs.Loops.{pairsOf}
 use Rattle.meaning.specs.Decide.{apart?}
 use Rattle.meaning.specs.Answer.{Answer, accepted, refusal, Outcome, TableMemory, GraphSize, GraphMemory, onward}
-use Rattle.meaning.specs.Calls.{lent, limited, answered, formRead, hasCut, cutRead, beside, pairRead, PairCall, is-apart, not-apart, tableRead, tableCallRead, graphRead, GraphCall, GraphBy, graphOf, lists}
+use Rattle.meaning.specs.Calls.{enough, lent, limited, answered, formSlices, formRead, hasCut, cutSlices, cutRead, together, beside, pairRead, PairCall, is-apart, not-apart, tableRead, tableSlices, tableCallRead, graphSlices, graphRead, GraphCall, GraphBy, graphOf, lists}
 use Rattle.meaning.specs.Sheet.{Sheet, prints, sheet, refusalLine}
+use Rattle.meaning.proofs.Logic.{clash, cases}
+use Rattle.meaning.proofs.Lists.{one-of, Among, among}
 use Rattle.meaning.proofs.Decide.{apart-iff}
-use Rattle.meaning.proofs.Listing.{pairsOf, apart-listing}
+use Rattle.meaning.proofs.Listing.{listing-iff, pairsOf-lists}
 use Rattle.meaning.proofs.Sound.{read-iff, read-good, read-behind}
-use Rattle.meaning.proofs.Alike.{same-labels-iff}
-use Rattle.meaning.proofs.TableText.{AllGood, good-at, table-iff, table-good}
-use Rattle.meaning.proofs.Places.{Standing, read-refused, table-refused}
+use Rattle.meaning.proofs.Alike.{unlike-iff, unlike-line}
+use Rattle.meaning.proofs.TableText.{good-at, table-iff, table-good}
+use Rattle.meaning.proofs.Places.{Standing, Placed, placed-among, read-refused, table-refused}
 
 -- P holds of what is accepted, or Q of the refusal
 pub data Tells {A : Type 0} (P : A → Type 0) (Q : ℕ → ℕ → ℕ → Type 0) : Answer A → Type 0 where
@@ -34,10 +39,10 @@ pub data Tells {A : Type 0} (P : A → Type 0) (Q : ℕ → ℕ → ℕ → Type
 module _ {A : Type 0} {P : A → Type 0} {Q : ℕ → ℕ → ℕ → Type 0} where
   pub tells-accepted : {a : Answer A} {x : A} → Tells P Q a → a ≡ accepted x → P x
   tells-accepted {x} (accepts {x = y} h) e = let z : y ≡ x = cc in subst P z h
-  tells-accepted (denies h) e = let z : _≡_ {A = ℕ} 0 1 = cc in absurd (omega arith)
+  tells-accepted (denies h) e = clash cc
 
   pub tells-refusal : {a : Answer A} {n i p : ℕ} → Tells P Q a → a ≡ refusal n i p → Q n i p
-  tells-refusal (accepts h) e = let z : _≡_ {A = ℕ} 0 1 = cc in absurd (omega arith)
+  tells-refusal (accepts h) e = clash cc
   tells-refusal {n} {i} {p} (denies {n = m} {i = j} {p = q} h) e = let x : m ≡ n = cc in let y : j ≡ i = cc in let z : q ≡ p = cc in rw (← x, ← y, ← z) h
 
   lent-tells : (b : Bool) {a : Answer A} → Q 7 0 0 → Tells P Q a → Tells P Q (lent b a)
@@ -45,11 +50,7 @@ module _ {A : Type 0} {P : A → Type 0} {Q : ℕ → ℕ → ℕ → Type 0} wh
   lent-tells false h t = denies h
 
   limited-tells : (i : ℕ) (s : List ℕ) {a : Answer A} → Q 8 i 0 → Tells P Q a → Tells P Q (limited i s a)
-  limited-tells i s {a} h t = by (ltb 65535 (length s))
-    where
-      by : (d : Bool) → Tells P Q (cond d (refusal 8 i 0) a)
-      by true = denies h
-      by false = t
+  limited-tells i s {a} h t = cases (λ d. Tells P Q (cond d (refusal 8 i 0) a)) (ltb textBytes (length s)) (λ _. denies h) (λ _. t)
 
   answered-tells : (i : ℕ) (r : Read A) → ((x : A) (p : ℕ) → r ≡ got x p → P x) → ((n p : ℕ) → r ≡ refused n p → Q n i p) → Tells P Q (answered i r)
   answered-tells i (got x p) f g = accepts (f x p refl)
@@ -66,61 +67,44 @@ pub record Line (lines : List ℕ) (s : List ℕ) (n i p : ℕ) : Type 0 where
   pub place : p ≤ length s
 
 -- a refusal of text 0 at place 0
-at-zero : {lines s : List ℕ} {n : ℕ} → List·Memᴰ n lines → Line lines s n 0 0
-at-zero m = record { number = m; text = refl; place = omega arith }
-
--- the lines that reading a tree can give, and reading a table
-one-to-four : {lines : List ℕ} (n : ℕ) → 1 ≤ n → n ≤ 4 → List·Memᴰ n (1 ∷ 2 ∷ 3 ∷ 4 ∷ lines)
-one-to-four zero l h = absurd (omega arith)
-one-to-four (suc zero) l h = List·Memᴰ·head refl
-one-to-four (suc (suc zero)) l h = List·Memᴰ·tail (List·Memᴰ·head refl)
-one-to-four (suc (suc (suc zero))) l h = List·Memᴰ·tail (List·Memᴰ·tail (List·Memᴰ·head refl))
-one-to-four (suc (suc (suc (suc zero)))) l h = List·Memᴰ·tail (List·Memᴰ·tail (List·Memᴰ·tail (List·Memᴰ·head refl)))
-one-to-four (suc (suc (suc (suc (suc n))))) l h = absurd (omega arith)
-
-behind-four : {lines : List ℕ} {n : ℕ} → List·Memᴰ n lines → List·Memᴰ n (1 ∷ 2 ∷ 3 ∷ 4 ∷ lines)
-behind-four m = List·Memᴰ·tail (List·Memᴰ·tail (List·Memᴰ·tail (List·Memᴰ·tail m)))
-
-five-or-six : {lines : List ℕ} (n : ℕ) → 4 < n → n ≤ 6 → Dec (n ≡ 5) → List·Memᴰ n (5 ∷ 6 ∷ lines)
-five-or-six n l h (yes e) = List·Memᴰ·head e
-five-or-six n l h (no e) = let six : n ≡ 6 = omega arith in List·Memᴰ·tail (List·Memᴰ·head six)
-
-one-to-six : {lines : List ℕ} (n : ℕ) → 1 ≤ n → n ≤ 6 → Dec (n ≤ 4) → List·Memᴰ n (1 ∷ 2 ∷ 3 ∷ 4 ∷ 5 ∷ 6 ∷ lines)
-one-to-six n l h (yes k) = one-to-four n l k
-one-to-six n l h (no k) = behind-four (five-or-six n (omega arith) h (ℕ-discrete n 5))
+at-zero : {lines s : List ℕ} {n : ℕ} → T (any (eqb n) lines) → Line lines s n 0 0
+at-zero t = record { number = one-of t; text = refl; place = omega arith }
 
 stands : (s : List ℕ) {n p : ℕ} → Standing s n p → p ≤ length s
 stands s (inl h) = omega arith
 stands s (inr h) = omega (arith, h .1)
 
+-- a refusal of the reader
+read-line : {lines : List ℕ} (s : List ℕ) {n p : ℕ} → Placed lines s n p → Line lines s n 0 p
+read-line s h = record { number = h .line; text = refl; place = stands s (h .stands) }
+
+-- among more lines
+more-lines : {A : Type 0} {P : A → Type 0} {lines lines′ s : List ℕ} {a : Answer A} → Among lines lines′ → Tells P (Line lines s) a → Tells P (Line lines′ s) a
+more-lines t (accepts h) = accepts h
+more-lines t (denies h) = denies (record { number = among t (h .number); text = h .text; place = h .place })
+
 -- what reading the one tree of a text tells
-tree-tells : (lines s : List ℕ) → Tells (λ t. Good t × OneText t s) (Line (1 ∷ 2 ∷ 3 ∷ 4 ∷ lines) s) (answered 0 (readTree s))
-tree-tells lines s =
-    answered-tells 0 (readTree s) (λ t p e. (read-good s t p e, read-iff t s .0 (p, e)))
-    (λ n p e. let r = read-refused s n p e in record { number = one-to-four n (r .0) (r .1); text = refl; place = stands s (r .2) })
+tree-tells : (s : List ℕ) → Tells (λ t. Good t × OneText t s) (Line treeRefusals s) (answered 0 (readTree s))
+tree-tells s = answered-tells 0 (readTree s) (λ t p e. (read-good s t p e, read-iff t s .0 (p, e))) (λ n p e. read-line s (read-refused s n p e))
 
 -- the form call
-pub form-tells : (s out : List ℕ) → Tells (λ t. Good t × OneText t s) (Line (1 ∷ 2 ∷ 3 ∷ 4 ∷ 7 ∷ 8 ∷ []) s) (formRead s out)
-form-tells s out =
-    lent-tells (leb 309 (length out)) (at-zero (behind-four (List·Memᴰ·head refl)))
-    (limited-tells 0 s (at-zero (behind-four (List·Memᴰ·tail (List·Memᴰ·head refl)))) (tree-tells (7 ∷ 8 ∷ []) s))
+pub form-tells : (s out : List ℕ) → Tells (λ t. Good t × OneText t s) (Line formRefusals s) (formRead s out)
+form-tells s out = lent-tells (enough (formSlices out)) (at-zero tt) (limited-tells 0 s (at-zero tt) (more-lines tt (tree-tells s)))
 
 -- the cut call: the cut number is one of the tree's
-has-cut-tells : (s : List ℕ) (c : ℕ) (t : Tree) → Good t × OneText t s → Tells (λ t. Good t × OneText t s × (c < 2 * leaves t - 2)) (Line (1 ∷ 2 ∷ 3 ∷ 4 ∷ 7 ∷ 8 ∷ 9 ∷ []) s) (hasCut c t)
-has-cut-tells s c t h = by (ltb c (2 * leaves t - 2)) refl
-  where
-    by : (d : Bool) → ltb c (2 * leaves t - 2) ≡ d → Tells (λ t. Good t × OneText t s × (c < 2 * leaves t - 2)) (Line (1 ∷ 2 ∷ 3 ∷ 4 ∷ 7 ∷ 8 ∷ 9 ∷ []) s) (cond d (accepted t) (refusal 9 0 0))
-    by true e = accepts (h .0, h .1, ltb-true c (2 * leaves t - 2) e)
-    by false e = denies (at-zero (behind-four (List·Memᴰ·tail (List·Memᴰ·tail (List·Memᴰ·head refl)))))
+has-cut-tells : (s : List ℕ) (c : ℕ) (t : Tree) → Good t × OneText t s → Tells (λ t. Good t × OneText t s × (c < 2 * leaves t - 2)) (Line cutRefusals s) (hasCut c t)
+has-cut-tells s c t h =
+    cases (λ d. Tells (λ t. Good t × OneText t s × (c < 2 * leaves t - 2)) (Line cutRefusals s) (cond d (accepted t) (refusal 9 0 0))) (ltb c (2 * leaves t - 2))
+    (λ e. accepts (h .0, h .1, ltb-true c (2 * leaves t - 2) e)) (λ _. denies (at-zero tt))
 
-pub cut-tells : (s : List ℕ) (c : ℕ) (out : List ℕ) → Tells (λ t. Good t × OneText t s × (c < 2 * leaves t - 2)) (Line (1 ∷ 2 ∷ 3 ∷ 4 ∷ 7 ∷ 8 ∷ 9 ∷ []) s) (cutRead s c out)
+pub cut-tells : (s : List ℕ) (c : ℕ) (out : List ℕ) → Tells (λ t. Good t × OneText t s × (c < 2 * leaves t - 2)) (Line cutRefusals s) (cutRead s c out)
 cut-tells s c out =
-    lent-tells (leb 307 (length out)) (at-zero (behind-four (List·Memᴰ·head refl)))
-    (limited-tells 0 s (at-zero (behind-four (List·Memᴰ·tail (List·Memᴰ·head refl)))) (onward-tells (hasCut c) (tree-tells (7 ∷ 8 ∷ 9 ∷ []) s) (has-cut-tells s c)))
+    lent-tells (enough (cutSlices out)) (at-zero tt)
+    (limited-tells 0 s (at-zero tt) (onward-tells (hasCut c) (more-lines tt (tree-tells s)) (has-cut-tells s c)))
 
 -- the pair call: a refusal's text is 0 or 1, and its place is in that text
 pub record PairLine (s s′ : List ℕ) (n i p : ℕ) : Type 0 where
-  pub number : List·Memᴰ n (1 ∷ 2 ∷ 3 ∷ 4 ∷ 5 ∷ 8 ∷ [])
+  pub number : List·Memᴰ n pairRefusals
   pub place : ((i ≡ 0) × (p ≤ length s)) ⊎ ((i ≡ 1) × (p ≤ length s′))
 
 pub record PairRead (s s′ : List ℕ) (x : (t : Tree) × Tree) : Type 0 where
@@ -133,39 +117,38 @@ pub record PairRead (s s′ : List ℕ) (x : (t : Tree) × Tree) : Type 0 where
 beside-tells : (s s′ : List ℕ) (t : Tree) → Good t × OneText t s → Tells (PairRead s s′) (PairLine s s′) (beside t (readTree s′))
 beside-tells s s′ t h = by (readTree s′) refl
   where
-    fits : (u : Tree) (p : ℕ) → readTree s′ ≡ got u p → (d : Bool) → sameLabels t u ≡ d → Tells (PairRead s s′) (PairLine s s′) (cond d (accepted (t, u)) (refusal 5 1 (p - 1)))
-    fits u p e true f = accepts (record { good = h .0; good′ = read-good s′ u p e; text = h .1; text′ = read-iff u s′ .0 (p, e); labels = same-labels-iff t u .0 f })
-    fits u p e false f = denies (record { number = behind-four (List·Memᴰ·head refl); place = inr (refl, let place : p - 1 ≤ length s′ = omega (arith, read-behind s′ u p e .1) in place) })
+    fits : (u : Tree) (p : ℕ) → readTree s′ ≡ got u p → (n : ℕ) → unlike t u ≡ n → Tells (PairRead s s′) (PairLine s s′) (together n t u p)
+    fits u p e zero f = accepts (record { good = h .0; good′ = read-good s′ u p e; text = h .1; text′ = read-iff u s′ .0 (p, e); labels = unlike-iff t u .0 f })
+    fits u p e (suc n) f = denies (record { number = among tt (unlike-line t u f); place = inr (refl, let place : p - 1 ≤ length s′ = omega (arith, read-behind s′ u p e .1) in place) })
 
     by : (r : Read Tree) → readTree s′ ≡ r → Tells (PairRead s s′) (PairLine s s′) (beside t r)
-    by (got u p) e = fits u p e (sameLabels t u) refl
-    by (refused n p) e = denies (let r = read-refused s′ n p e in record { number = one-to-four n (r .0) (r .1); place = inr (refl, stands s′ (r .2)) })
+    by (got u p) e = fits u p e (unlike t u) refl
+    by (refused n p) e = denies (let r = read-refused s′ n p e in record { number = among tt (r .line); place = inr (refl, stands s′ (r .stands)) })
 
 pub pair-tells : (s s′ : List ℕ) → Tells (PairRead s s′) (PairLine s s′) (pairRead s s′)
 pair-tells s s′ =
-    let long = behind-four (List·Memᴰ·tail (List·Memᴰ·head refl)) in
-    limited-tells 0 s (record { number = long; place = inl (refl, omega arith) })
-    (limited-tells 1 s′ (record { number = long; place = inr (refl, omega arith) })
+    limited-tells 0 s (record { number = one-of tt; place = inl (refl, omega arith) })
+    (limited-tells 1 s′ (record { number = one-of tt; place = inr (refl, omega arith) })
     (onward-tells (λ t. beside t (readTree s′))
     (answered-tells 0 (readTree s) (λ t p e. (read-good s t p e, read-iff t s .0 (p, e)))
-    (λ n p e. let r = read-refused s n p e in record { number = one-to-four n (r .0) (r .1); place = inl (refl, stands s (r .2)) }))
+    (λ n p e. let r = read-refused s n p e in record { number = among tt (r .line); place = inl (refl, stands s (r .stands)) }))
     (beside-tells s s′)))
 
--- the table call and the graph call, without 7 and with it
-pub table-tells : (lines s : List ℕ) → Tells (λ ts. AllGood ts × TableText ts s) (Line (1 ∷ 2 ∷ 3 ∷ 4 ∷ 5 ∷ 6 ∷ 8 ∷ lines) s) (tableRead s)
-table-tells lines s =
-    limited-tells 0 s (at-zero (behind-four (List·Memᴰ·tail (List·Memᴰ·tail (List·Memᴰ·head refl)))))
-    (answered-tells 0 (readTable s) (λ ts p e. (table-good s ts p e, table-iff ts s .0 (p, e)))
-    (λ n p e. let r = table-refused s n p e in record { number = one-to-six n (r .0) (r .1) (decLe n 4); text = refl; place = stands s (r .2) }))
+-- reading a table, as the pair lister does: nothing is lent
+pub table-tells : (s : List ℕ) → Tells (λ ts. AllGood ts × TableText ts s) (Line sheetRefusals s) (tableRead s)
+table-tells s =
+    limited-tells 0 s (at-zero tt)
+    (answered-tells 0 (readTable s) (λ ts p e. (table-good s ts p e, table-iff ts s .0 (p, e))) (λ n p e. read-line s (placed-among tt (table-refused s n p e))))
 
-lent-table-tells : (b : Bool) (s : List ℕ) → Tells (λ ts. AllGood ts × TableText ts s) (Line (1 ∷ 2 ∷ 3 ∷ 4 ∷ 5 ∷ 6 ∷ 8 ∷ 7 ∷ []) s) (lent b (tableRead s))
-lent-table-tells b s = lent-tells b (at-zero (behind-four (List·Memᴰ·tail (List·Memᴰ·tail (List·Memᴰ·tail (List·Memᴰ·head refl)))))) (table-tells (7 ∷ []) s)
+-- the table call and the graph call
+lent-table-tells : (b : Bool) (s : List ℕ) → Tells (λ ts. AllGood ts × TableText ts s) (Line tableCallRefusals s) (lent b (tableRead s))
+lent-table-tells b s = lent-tells b (at-zero tt) (more-lines tt (table-tells s))
 
-pub table-call-tells : (s : List ℕ) (memory : TableMemory) → Tells (λ ts. AllGood ts × TableText ts s) (Line (1 ∷ 2 ∷ 3 ∷ 4 ∷ 5 ∷ 6 ∷ 8 ∷ 7 ∷ []) s) (tableCallRead s memory)
-table-call-tells s memory = lent-table-tells (leb 49440 (length (memory .texts)) && leb 160 (length (memory .ends))) s
+pub table-call-tells : (s : List ℕ) (memory : TableMemory) → Tells (λ ts. AllGood ts × TableText ts s) (Line tableCallRefusals s) (tableCallRead s memory)
+table-call-tells s memory = lent-table-tells (enough (tableSlices memory)) s
 
-pub graph-tells : (s : List ℕ) (memory : GraphMemory) → Tells (λ ts. AllGood ts × TableText ts s) (Line (1 ∷ 2 ∷ 3 ∷ 4 ∷ 5 ∷ 6 ∷ 8 ∷ 7 ∷ []) s) (graphRead s memory)
-graph-tells s memory = lent-table-tells (leb 25440 (length (memory .pairs)) && leb 160 (length (memory .counts))) s
+pub graph-tells : (s : List ℕ) (memory : GraphMemory) → Tells (λ ts. AllGood ts × TableText ts s) (Line tableCallRefusals s) (graphRead s memory)
+graph-tells s memory = lent-table-tells (enough (graphSlices memory)) s
 
 -- ---- every text has an outcome
 pub pair-exists : (s s′ : List ℕ) → (a : Answer Bool) × PairCall s s′ a
@@ -186,6 +169,11 @@ pair-exists s s′ = by (pairRead s s′) refl
 abbrev pub pairsIn : List Tree → List Pair
 pairsIn ts = pairsOf (length ts) (λ i j. apart? (treeOf ts i) (treeOf ts j))
 
+-- they are the listing of the trees that are one move apart
+pub apart-listing : (ts : List Tree) → ((i : ℕ) → i < length ts → Distinct (treeOf ts i)) → Listing (length ts) (At Apart ts) (pairsIn ts)
+apart-listing ts D =
+    listing-iff (λ i j h l. apart-iff (treeOf ts i) (treeOf ts j) (D i (omega arith)) (D j l)) (pairsOf-lists (length ts) (λ i j. apart? (treeOf ts i) (treeOf ts j)))
+
 pub pairs-listed : (ts : List Tree) → AllGood ts → Listing (length ts) (At Apart ts) (pairsIn ts)
 pairs-listed ts g = apart-listing ts (λ i h. good-at ts g i h .distinct)
 
@@ -200,5 +188,5 @@ pub sheet-exists : (s : List ℕ) → (x : List ℕ) × Sheet s x
 sheet-exists s = by (tableRead s) refl
   where
     by : (a : Answer (List Tree)) → tableRead s ≡ a → (x : List ℕ) × Sheet s x
-    by (accepted ts) e = (sheet ts (pairsIn ts), prints ts (pairsIn ts) e (pairs-listed ts (tells-accepted (table-tells [] s) e .0)))
+    by (accepted ts) e = (sheet ts (pairsIn ts), prints ts (pairsIn ts) e (pairs-listed ts (tells-accepted (table-tells s) e .0)))
     by (refusal n i p) e = (refusalLine n p, Sheet.refuses n i p e)

@@ -9,11 +9,16 @@ use native.Mathlib.Omega.{arith}
 use borrow.Author.Tests.{le-ltb}
 use lib.ListN.{length, drop, getD, length-append}
 use lib.Seq.{drop-append-seam, drop-drop, getD-drop}
+use Rattle.meaning.specs.Limits.{maxOpen}
+use Rattle.meaning.specs.Lists.{member}
 use Rattle.meaning.specs.Tree.{Tree, leaf, fork, labels, In, tip, Good}
-use Rattle.meaning.specs.Reading.{Read, got, isBlank, isDigit, byteAt, lead, past, skip, runEnd, valueAfter, value, member, token, forkAt, readNode, treeAt, readTree}
+use Rattle.meaning.specs.Reading.{Read, got, isBlank, isDigit, byteAt, lead, past, skip, runEnd, valueAfter, value, token, forkAt, readNode, treeAt, readTree}
 use Rattle.meaning.specs.Grammar.{All, TokenText, behind, LabelRun, NodeText, is-label, is-fork, depth, TreeText, is-tree, OneText, is-one}
+use Rattle.meaning.proofs.Logic.{clash, cases}
+use Rattle.meaning.proofs.Same.{good-first, good-second}
 use Rattle.meaning.proofs.Labels.{labels-in}
-use Rattle.meaning.proofs.Scan.{digit-no-blank, blank-no-digit, member-append, member-in}
+use Rattle.meaning.proofs.Lists.{member-append, member-in}
+use Rattle.meaning.proofs.Scan.{digit-no-blank, blank-no-digit}
 use Rattle.meaning.proofs.Ways.{token-yes, label-new, node-label, node-fork}
 
 -- what is left of a text behind x, and the byte at a place
@@ -64,7 +69,7 @@ token-no-digit (behind (c ∷ w) blank) y h = blank-no-digit c (blank .0)
 -- a text that begins with a digit is not empty
 first-of : (x y : List ℕ) → isDigit (getD x 0 0) ≡ true → getD (x ++ y) 0 0 ≡ getD x 0 0
 unfolding isDigit
-first-of [] y h = let z : _≡_ {A = ℕ} 0 1 = cc in absurd (omega arith)
+first-of [] y h = clash cc
 first-of (b ∷ x) y h = refl
 
 -- no label of the tree is among the numbers
@@ -95,10 +100,10 @@ module _ {v : ℕ} {y : List ℕ} (R : LabelRun v y) (w : List ℕ) (blank : All
   label-end : runEnd s (skip s p) ≡ p + length (w ++ y)
   label-end = past-all isDigit s (skip s p) y rest (R .digit) stop label-left ∙ rw (label-skip, length-append) (omega arith)
 
-  label-read : (room : ℕ) (seen : List ℕ) → Good (leaf v) → New (leaf v) seen → readNode room s p seen ≡ got (leaf v) (p + length (w ++ y))
-  label-read room seen G N =
+  label-read : (room : ℕ) (seen : List ℕ) → New (leaf v) seen → readNode room s p seen ≡ got (leaf v) (p + length (w ++ y))
+  label-read room seen N =
       node-label s p seen room (ap isDigit label-byte ∙ R .begins)
-      ∙ label-new s (skip s p) seen (λ z. R .no-zero (sym label-byte ∙ z)) (rw label-value (G .small v tip .0)) (rw label-value (G .small v tip .1)) (rw label-value (N v tip))
+      ∙ label-new s (skip s p) seen (rw (label-byte, label-value) (R .allowed)) (rw label-value (N v tip))
       ∙ rw (label-value, label-end)
 
 -- a fork of o x c y z, where x and y are read as nodes
@@ -146,25 +151,17 @@ module _ (o x c y z : List ℕ) (O : TokenText 40 o) (C : TokenText 44 c) (Z : T
         node-fork s p seen room (ap isDigit byte) byte (λ z. omega arith)
         ∙ rw (next, ← fork-end) (fork-read (readNode (room - 1) s) ea eb)
 
--- the children of a tree are good, and the second has no label of the first
-pub good-first : {a b : Tree} → Good (fork a b) → Good a
-good-first G = record { distinct = G .distinct .0; small = λ l i. G .small l (In.first i) }
-
-pub good-second : {a b : Tree} → Good (fork a b) → Good b
-good-second G = record { distinct = G .distinct .1; small = λ l i. G .small l (In.second i) }
-
+-- the second child of a tree has no label of the first
 new-second : (a b : Tree) (seen : List ℕ) → Good (fork a b) → New (fork a b) seen → New b (seen ++ labels a)
-new-second a b seen G N l i = member-append l seen (labels a) ∙ rw (N l (In.second i)) (by (member l (labels a)) refl)
-  where
-    by : (d : Bool) → member l (labels a) ≡ d → d ≡ false
-    by true e = absurd (G .distinct .2 l (labels-in a (member-in l (labels a) e)) i)
-    by false e = refl
+new-second a b seen G N l i =
+    member-append l seen (labels a)
+    ∙ rw (N l (In.second i)) (cases (λ d. d ≡ false) (member l (labels a)) (λ e. absurd (G .distinct .2 l (labels-in a (member-in l (labels a) e)) i)) (λ e. refl))
 
 -- a node text is read, where enough brackets may open, no label was seen and no digit follows
 pub complete : {t : Tree} {x : List ℕ} → NodeText t x → (room : ℕ) (s : List ℕ) (p : ℕ) (seen rest : List ℕ) → depth t ≤ room → Good t → New t seen → isDigit (getD rest 0 0) ≡ false → drop p s ≡ x ++ rest
     → readNode room s p seen ≡ got t (p + length x)
 unfolding depth isDigit
-complete (is-label w blank R) room s p seen rest d G N stop here = label-read R w blank s p rest stop here room seen G N
+complete (is-label w blank R) room s p seen rest d G N stop here = label-read R w blank s p rest stop here room seen N
 complete (is-fork {a} {b} {o} {x} {c} {y} {z} O A C B Z) room s p seen rest d G N stop here =
     node-read o x c y z O C Z s p rest here a b seen room (omega arith)
     (complete A (room - 1) s _ seen _ (omega arith) (good-first G) (λ l i. N l (In.first i)) (token-no-digit C _ refl) (here₁ o x c y z O C Z s p rest here))
@@ -175,7 +172,7 @@ pub tree-complete : {t : Tree} {x : List ℕ} → TreeText t x → (s : List ℕ
 unfolding treeAt isBlank isDigit member
 tree-complete (is-tree {x} {y} N S G d) s p rest here =
     let h : drop p s ≡ x ++ (y ++ rest) = here ∙ append-assoc x y rest in
-    rw (complete N 63 s p [] (y ++ rest) d G (λ l i. refl) (token-no-digit S rest refl) h) (token-read S s (p + length x) rest refl (at-next s p x (y ++ rest) h) _ ∙ rw (length-append, add-assoc))
+    rw (complete N maxOpen s p [] (y ++ rest) d G (λ l i. refl) (token-no-digit S rest refl) h) (token-read S s (p + length x) rest refl (at-next s p x (y ++ rest) h) _ ∙ rw (length-append, add-assoc))
 
 -- where only blanks are left, they are skipped to the end
 pub blanks-end : (s : List ℕ) (p : ℕ) (w : List ℕ) → All isBlank w → drop p s ≡ w → skip s p ≡ p + length w

@@ -3,18 +3,20 @@
 use mathlib.Core.Path.{_≡_, refl, sym, ap₂, _∙_, subst}
 use mathlib.Core.Bool.{Bool, true, false, _&&_, not}
 use mathlib.Core.List.{List, [], _∷_, _++_, List·Memᴰ, List·Memᴰ·head, List·Memᴰ·tail}
-use Prim.Native.Nat.{ℕ, _+_, _-_, _*_, _≤_, _<_, min, max}
+use Prim.Native.Nat.{ℕ, _+_, _-_, _*_, _/_, _≤_, _<_, min, max}
 use native.Mathlib.Nat.{mul-le-mul, min-eq-left, min-eq-right, max-eq-left, max-eq-right}
 use native.Mathlib.Omega.{arith}
 use native.Mathlib.Decide.{ℕ-discrete, decLt}
 use borrow.Author.Tests.{eq-eqb, ne-eqb}
 use lib.Dec.{T, eqb, eqb→eq, eqb-refl, leb, leb→le, le→leb}
-use lib.ListN.{length, getD, set, replicate, length-set, length-replicate, getD-replicate}
+use lib.ListN.{length, getD, replicate, length-set, length-replicate, getD-replicate}
 use lib.Seq.{getD-set-same, getD-set-other, ext-getD}
-use Rattle.meaning.specs.Listing.{Pair, Ascending, Listing, count, touches, neighbours, positions, counts, unlinked, flat}
-use Rattle.meaning.proofs.Decide.{T-and}
+use Rattle.meaning.specs.Limits.{maxTrees, pairNumbers}
+use Rattle.meaning.specs.Lists.{count, positions, more, sum, upto, bit}
+use Rattle.meaning.specs.Listing.{Pair, Ascending, Listing, touches, neighbours, counts, unlinked, flat}
+use Rattle.meaning.proofs.Logic.{T-and}
 use Rattle.meaning.proofs.Listing.{before-ne, listing-iff}
-use Rattle.meaning.proofs.Sums.{sum, upto, bit, count-append, map-length, map-at, map-sum, count-positions, upto-add, upto-le, upto-same, upto-const, bit-one, bit-none, bit-or, upto-at, upto-and, and-upto}
+use Rattle.meaning.proofs.Sums.{count-append, map-length, map-at, map-sum, count-positions, upto-add, upto-le, upto-same, upto-const, bit-one, bit-none, bit-or, upto-at, upto-and, and-upto}
 
 -- the counts are k numbers
 pub counts-length : (k : ℕ) (ps : List Pair) → length (counts k ps) ≡ k
@@ -202,9 +204,9 @@ module _ {k : ℕ} {L : ℕ → ℕ → Type 0} {ps : List Pair} (H : Listing k 
   listing-length = omega (arith, neighbours-twice k ps (below H), upto-le (neighbours ps) (λ _. k - 1) k neighbours-le, upto-const (k - 1) k)
 
   -- so up to 160 positions have at most 12720 pairs
-  pub listing-few : k ≤ 160 → length ps ≤ 12720
+  pub listing-few : k ≤ maxTrees → length ps ≤ pairNumbers / 2
   listing-few h =
-      let few : k * (k - 1) ≤ 160 * 159 = mul-le-mul {m₂ = 159} h (omega arith) in
+      let few : k * (k - 1) ≤ pairNumbers = mul-le-mul {m₂ = maxTrees - 1} h (omega arith) in
       omega (arith, listing-length)
 
 -- the pairs as numbers are twice as many
@@ -214,7 +216,7 @@ flat-length [] = refl
 flat-length (p ∷ ps) = omega (arith, flat-length ps)
 
 -- so up to 160 positions have at most 25440
-pub flat-few : {k : ℕ} {L : ℕ → ℕ → Type 0} {ps : List Pair} → Listing k L ps → k ≤ 160 → length (flat ps) ≤ 25440
+pub flat-few : {k : ℕ} {L : ℕ → ℕ → Type 0} {ps : List Pair} → Listing k L ps → k ≤ maxTrees → length (flat ps) ≤ pairNumbers
 flat-few {ps} H h = omega (arith, flat-length ps, listing-few H h)
 
 -- and join as the pairs do
@@ -223,11 +225,7 @@ unfolding flat
 flat-append [] qs = refl
 flat-append (p ∷ ps) qs = rw (flat-append ps qs)
 
--- one more at place i
-abbrev pub more : List ℕ → ℕ → List ℕ
-more cs i = set cs i (getD cs i 0 + 1)
-
--- what stands at place m then
+-- one more at place i: what stands at place m then
 more-at : (cs : List ℕ) (i m : ℕ) → i < length cs → getD (more cs i) m 0 ≡ getD cs m 0 + bit (eqb i m)
 more-at cs i m h = go (ℕ-discrete i m)
   where

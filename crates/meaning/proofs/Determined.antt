@@ -4,7 +4,6 @@ use mathlib.Core.Path.{_≡_, refl, sym, ap₂, subst, _∙_}
 use mathlib.Core.Bool.{Bool}
 use mathlib.Core.List.{List}
 use Prim.Native.Nat.{ℕ}
-use native.Mathlib.Omega.{arith}
 use lib.ListN.{length}
 use Rattle.meaning.specs.Tree.{Tree}
 use Rattle.meaning.specs.Move.{Apart}
@@ -12,6 +11,7 @@ use Rattle.meaning.specs.Listing.{Pair, Listing, At}
 use Rattle.meaning.specs.Answer.{Answer, accepted, refusal, Outcome, TableSize, TableMemory, GraphSize, GraphMemory}
 use Rattle.meaning.specs.Calls.{formCall, cutCall, PairCall, is-apart, not-apart, refuses, tableCall, GraphBy, lists, graphOf}
 use Rattle.meaning.specs.Sheet.{Sheet, prints, sheet, refusalLine}
+use Rattle.meaning.proofs.Logic.{clash}
 use Rattle.meaning.proofs.Listing.{listing-unique}
 
 pub form-determined : (s out : List ℕ) (o o′ : Outcome ℕ (List ℕ)) → o ≡ formCall s out → o′ ≡ formCall s out → o ≡ o′
@@ -28,20 +28,20 @@ pub same-accepted : {A : Type 0} {a : Answer A} {x y : A} → a ≡ accepted x �
 same-accepted e f = cc
 
 pub not-both : {A : Type 0} {a : Answer A} {x : A} {n i p : ℕ} → a ≡ accepted x → a ≡ refusal n i p → ⊥
-not-both e f = let z : _≡_ {A = ℕ} 0 1 = cc in omega arith
+not-both e f = clash cc
 
 pub same-refusal : {A : Type 0} {a : Answer A} {n i p m j q : ℕ} → a ≡ refusal n i p → a ≡ refusal m j q → (n ≡ m) × (i ≡ j) × (p ≡ q)
 same-refusal e f = (cc, cc, cc)
 
--- two trees are apart or not
-clash : {a : Answer ((t : Tree) × Tree)} {x y : (t : Tree) × Tree} → a ≡ accepted x → a ≡ accepted y → Apart (x .0) (x .1) → ¬ Apart (y .0) (y .1) → ⊥
-clash e f h k = k (subst (λ (z : (t : Tree) × Tree). Apart (z .0) (z .1)) (same-accepted e f) h)
+-- two trees are not both apart and not
+apart-and-not : {a : Answer ((t : Tree) × Tree)} {x y : (t : Tree) × Tree} → a ≡ accepted x → a ≡ accepted y → Apart (x .0) (x .1) → ¬ Apart (y .0) (y .1) → ⊥
+apart-and-not e f h k = k (subst (λ (z : (t : Tree) × Tree). Apart (z .0) (z .1)) (same-accepted e f) h)
 
 pub pair-determined : {s s′ : List ℕ} {a b : Answer Bool} → PairCall s s′ a → PairCall s s′ b → a ≡ b
 pair-determined (is-apart t u e h) (is-apart t′ u′ e′ h′) = refl
-pair-determined (is-apart t u e h) (not-apart t′ u′ e′ h′) = absurd (clash e e′ h h′)
+pair-determined (is-apart t u e h) (not-apart t′ u′ e′ h′) = absurd (apart-and-not e e′ h h′)
 pair-determined (is-apart t u e h) (PairCall.refuses n i p e′) = absurd (not-both e e′)
-pair-determined (not-apart t u e h) (is-apart t′ u′ e′ h′) = absurd (clash e′ e h′ h)
+pair-determined (not-apart t u e h) (is-apart t′ u′ e′ h′) = absurd (apart-and-not e′ e h′ h)
 pair-determined (not-apart t u e h) (not-apart t′ u′ e′ h′) = refl
 pair-determined (not-apart t u e h) (PairCall.refuses n i p e′) = absurd (not-both e e′)
 pair-determined (PairCall.refuses n i p e) (is-apart t′ u′ e′ h′) = absurd (not-both e′ e)

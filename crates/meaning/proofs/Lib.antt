@@ -10,8 +10,12 @@ pub mod Digits
 pub mod Forests
 pub mod Labels
 pub mod Length
+pub mod Lent
 pub mod Listing
+pub mod Lists
+pub mod Logic
 pub mod Longest
+pub mod Loops
 pub mod Memory
 pub mod Moves
 pub mod Order

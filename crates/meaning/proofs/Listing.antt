@@ -3,18 +3,16 @@
 use mathlib.Core.Path.{_≡_, refl, sym, ap, ap₂, _∙_, subst, subst₂}
 use mathlib.Core.Logic.{_↔_, _≢_, _⊎_, inl, inr}
 use mathlib.Core.Bool.{Bool, true, false}
-use mathlib.Core.List.{List, [], _∷_, _++_, append-assoc, append-nil, List·Memᴰ, List·Memᴰ·head, List·Memᴰ·tail, List·Memᴰ·not-nil, Memᴰ·append-left, Memᴰ·append-right, List·Memᴰ·append-cases, List·Memᴰ·eq-of-singleton}
+use mathlib.Core.List.{List, [], _∷_, _++_, List·Memᴰ, List·Memᴰ·head, List·Memᴰ·tail, List·Memᴰ·not-nil, List·Memᴰ·append-cases, List·Memᴰ·eq-of-singleton}
 use Prim.Native.Nat.{ℕ, zero, suc, _+_, _-_, _≤_, _<_}
 use native.Mathlib.Omega.{arith}
-use native.Mathlib.Decide.{ℕ-discrete, decLt}
+use native.Mathlib.Decide.{decLt}
 use lib.Dec.{T}
 use lib.ListN.{length, getD}
-use Rattle.meaning.specs.Tree.{Tree, Distinct}
-use Rattle.meaning.specs.Move.{Apart}
-use Rattle.meaning.specs.Decide.{apart?}
-use Rattle.meaning.specs.Listing.{Pair, Before, Ascending, Listing, treeOf, At}
-use Rattle.meaning.proofs.Moves.{numbered}
-use Rattle.meaning.proofs.Decide.{apart-iff}
+use Rattle.meaning.specs.Listing.{Pair, Before, Ascending, Listing}
+use Rattle.meaning.specs.Loops.{turns, each, pick, cell, rowOf, row, pairsFrom, pairsOf}
+use Rattle.meaning.proofs.Lists.{numbered}
+use Rattle.meaning.proofs.Loops.{each-step, each-end, turns-mem, each-mem, mem-each}
 
 -- no pair stands before itself
 pub before-ne : {p q : Pair} → Before p q → p ≢ q
@@ -100,72 +98,20 @@ ascending-append (p ∷ ps) qs a b f = (λ q m. go q (List·Memᴰ·append-cases
     go q (inl m) = a .0 q m
     go q (inr m) = f p q (List·Memᴰ·head refl) m
 
--- what f gives at from and at the n - 1 numbers after it, one after another
-abbrev pub run : {A : Type 0} → ℕ → ℕ → (ℕ → List A) → List A
-run zero from f = []
-run (suc n) from f = f from ++ run n (from + 1) f
-
--- what a loop over from ≤ j < k appends, where turn j appends f j
-unfoldable pub each : {A : Type 0} → ℕ → ℕ → (ℕ → List A) → List A
-each from k f = run (k - from) from f
-
-module _ {A : Type 0} (f : ℕ → List A) where
-  -- the first turn, and the rest
-  pub each-step : (from k : ℕ) → from < k → each from k f ≡ f from ++ each (from + 1) k f
-  unfolding each
-  each-step from k h =
-      let e : k - from ≡ suc (k - (from + 1)) = omega arith in
-      rw e
-
-  -- after the last turn
-  pub each-end : (from k : ℕ) → k ≤ from → each from k f ≡ []
-  unfolding each
-  each-end from k h =
-      let e : k - from ≡ 0 = omega arith in
-      rw e
-
-  -- a member comes from one of the turns
-  run-mem : (n from : ℕ) {x : A} → List·Memᴰ x (run n from f) → (j : ℕ) × (from ≤ j) × (j < from + n) × List·Memᴰ x (f j)
-  run-mem zero from m = absurd (List·Memᴰ·not-nil m)
-  run-mem (suc n) from {x} m = go (List·Memᴰ·append-cases (f from) m) (run-mem n (from + 1))
-    where
-      go : List·Memᴰ x (f from) ⊎ List·Memᴰ x (run n (from + 1) f) → (List·Memᴰ x (run n (from + 1) f) → (j : ℕ) × (from + 1 ≤ j) × (j < from + 1 + n) × List·Memᴰ x (f j)) → (j : ℕ) × (from ≤ j) × (j < from + suc n) × List·Memᴰ x (f j)
-      go (inl i) g = (from, omega arith, omega arith, i)
-      go (inr i) g = let (j, h, l, o) = g i in (j, omega arith, omega arith, o)
-
-  mem-run : (n from j : ℕ) → from ≤ j → j < from + n → {x : A} → List·Memᴰ x (f j) → List·Memᴰ x (run n from f)
-  mem-run zero from j h l m = absurd (omega arith)
-  mem-run (suc n) from j h l {x} m = go (ℕ-discrete from j) (λ g. mem-run n (from + 1) j g (omega arith) m)
-    where
-      go : Dec (from ≡ j) → (from + 1 ≤ j → List·Memᴰ x (run n (from + 1) f)) → List·Memᴰ x (run (suc n) from f)
-      go (yes e) g = Memᴰ·append-left (run n (from + 1) f) (subst (λ i. List·Memᴰ x (f i)) (sym e) m)
-      go (no e) g = Memᴰ·append-right (f from) (g (omega arith))
-
-  each-mem : (from k : ℕ) {x : A} → List·Memᴰ x (each from k f) → (j : ℕ) × (from ≤ j) × (j < k) × List·Memᴰ x (f j)
-  unfolding each
-  each-mem from k m = let (j, h, l, o) = run-mem (k - from) from m in (j, h, omega arith, o)
-
-  mem-each : (from k j : ℕ) → from ≤ j → j < k → {x : A} → List·Memᴰ x (f j) → List·Memᴰ x (each from k f)
-  unfolding each
-  mem-each from k j h l m = mem-run (k - from) from j h (omega arith) m
-
 -- turns that each append an ascending list, all of it before what later turns append
 module _ (f : ℕ → List Pair) (ascends : (j : ℕ) → Ascending (f j)) (later : (i j : ℕ) → i < j → (p q : Pair) → List·Memᴰ p (f i) → List·Memᴰ q (f j) → Before p q) where
-  run-ascending : (n from : ℕ) → Ascending (run n from f)
+  turns-ascending : (n from : ℕ) → Ascending (turns n from f)
   unfolding Ascending
-  run-ascending zero from = tt
-  run-ascending (suc n) from = ascending-append (f from) (run n (from + 1) f) (ascends from) (run-ascending n (from + 1)) (λ p q m o. let (j, h, l, o′) = run-mem f n (from + 1) o in later from j (omega arith) p q m o′)
+  turns-ascending zero from = tt
+  turns-ascending (suc n) from =
+      ascending-append (f from) (turns n (from + 1) f) (ascends from) (turns-ascending n (from + 1))
+      (λ p q m o. let (j, h, l, o′) = turns-mem f n (from + 1) o in later from j (omega arith) p q m o′)
 
   each-ascending : (from k : ℕ) → Ascending (each from k f)
   unfolding each
-  each-ascending from k = run-ascending (k - from) from
+  each-ascending from k = turns-ascending (k - from) from
 
--- the pair, where the test passes
-abbrev pub pick : Bool → Pair → List Pair
-pick true p = p ∷ []
-pick false p = []
-
--- its one member
+-- the one member of what a test picks
 pick-mem : (b : Bool) {p q : Pair} → List·Memᴰ q (pick b p) → (p ≡ q) × T b
 pick-mem true m = (sym (List·Memᴰ·eq-of-singleton m), tt)
 pick-mem false m = absurd (List·Memᴰ·not-nil m)
@@ -178,30 +124,6 @@ pick-ascending : (b : Bool) (p : Pair) → Ascending (pick b p)
 unfolding Ascending
 pick-ascending true p = (λ q m. absurd (List·Memᴰ·not-nil m), tt)
 pick-ascending false p = tt
-
--- what the turn at i and j appends
-abbrev pub cell : (ℕ → ℕ → Bool) → ℕ → ℕ → List Pair
-cell test i j = pick (test i j) (i, j)
-
--- the pairs (i, j) with from ≤ j < k that pass the test, in order
-unfoldable pub rowOf : ℕ → ℕ → ℕ → (ℕ → ℕ → Bool) → List Pair
-rowOf i from k test = each from k (cell test i)
-
--- row i: those with j > i
-abbrev pub row : ℕ → (ℕ → ℕ → Bool) → ℕ → List Pair
-row k test i = rowOf i (i + 1) k test
-
--- the rows from row i on
-unfoldable pub pairsFrom : ℕ → ℕ → (ℕ → ℕ → Bool) → List Pair
-pairsFrom i k test = each i k (row k test)
-
--- all (i, j) with i < j < k that pass the test, in order: what `for i in 0..k { for j in i + 1..k { .. } }` appends
-abbrev pub pairsOf : ℕ → (ℕ → ℕ → Bool) → List Pair
-pairsOf k test = pairsFrom 0 k test
-
--- what those loops have yet to append when the inner one is at j
-abbrev pub left : ℕ → ℕ → ℕ → (ℕ → ℕ → Bool) → List Pair
-left i j k test = rowOf i j k test ++ pairsFrom (i + 1) k test
 
 module _ (k : ℕ) (test : ℕ → ℕ → Bool) where
   -- a turn of the inner loop
@@ -223,30 +145,6 @@ module _ (k : ℕ) (test : ℕ → ℕ → Bool) where
   pub pairs-end : (i : ℕ) → k ≤ i → pairsFrom i k test ≡ []
   unfolding pairsFrom
   pairs-end i h = each-end (row k test) i k h
-
-  -- the inner loop begins, with `out` appended so far
-  pub left-begin : (out : List Pair) (i : ℕ) → i < k → out ++ pairsFrom i k test ≡ pairsOf k test → out ++ left i (i + 1) k test ≡ pairsOf k test
-  left-begin out i h e = rw (pairs-step i) at e
-
-  -- it makes a turn
-  pub left-turn : (out : List Pair) (i j : ℕ) → j < k → out ++ left i j k test ≡ pairsOf k test → (out ++ cell test i j) ++ left i (j + 1) k test ≡ pairsOf k test
-  left-turn out i j h e = simp append-assoc (simp append-assoc at (rw (row-step i j) at e))
-
-  -- at a pair that passes the test
-  pub left-take : (out : List Pair) (i j : ℕ) → j < k → test i j ≡ true → out ++ left i j k test ≡ pairsOf k test → (out ++ ((i, j) ∷ [])) ++ left i (j + 1) k test ≡ pairsOf k test
-  left-take out i j h t e = rw t at (left-turn out i j h e)
-
-  -- at a pair that fails
-  pub left-skip : (out : List Pair) (i j : ℕ) → j < k → test i j ≡ false → out ++ left i j k test ≡ pairsOf k test → out ++ left i (j + 1) k test ≡ pairsOf k test
-  left-skip out i j h t e = rw (t, append-nil) at (left-turn out i j h e)
-
-  -- it is done
-  pub left-end : (out : List Pair) (i j : ℕ) → k ≤ j → out ++ left i j k test ≡ pairsOf k test → out ++ pairsFrom (i + 1) k test ≡ pairsOf k test
-  left-end out i j h e = rw (row-end i j) at e
-
-  -- both are done
-  pub all-listed : (out : List Pair) (i : ℕ) → k ≤ i → out ++ pairsFrom i k test ≡ pairsOf k test → out ≡ pairsOf k test
-  all-listed out i h e = sym (append-nil out) ∙ rw (pairs-end i) at e
 
   -- the members of a row
   row-mem : (i from : ℕ) {p : Pair} → List·Memᴰ p (rowOf i from k test) → (i ≡ p .0) × (from ≤ p .1) × (p .1 < k) × T (test (p .0) (p .1))
@@ -287,8 +185,3 @@ module _ (k : ℕ) (test : ℕ → ℕ → Bool) where
   -- so the loops make the listing of the pairs that pass the test
   pub pairsOf-lists : Listing k (λ i j. T (test i j)) (pairsOf k test)
   pairsOf-lists = record { ascending = pairs-ascending; listed = λ i j. (pairs-mem (i, j), λ x. mem-pairs i j (x .0) (x .1) (x .2)) }
-
--- the listing of the trees that are one move apart
-pub apart-listing : (ts : List Tree) → ((i : ℕ) → i < length ts → Distinct (treeOf ts i)) → Listing (length ts) (At Apart ts) (pairsOf (length ts) (λ i j. apart? (treeOf ts i) (treeOf ts j)))
-apart-listing ts D =
-    listing-iff (λ i j h l. apart-iff (treeOf ts i) (treeOf ts j) (D i (omega arith)) (D j l)) (pairsOf-lists (length ts) (λ i j. apart? (treeOf ts i) (treeOf ts j)))

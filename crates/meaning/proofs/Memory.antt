@@ -1,24 +1,20 @@
 -- Lent memory: every accepted text fits into the stated sizes, so a slice keeps its length, and nothing is changed behind what is written.
 -- Assumes nothing.
 use mathlib.Core.Path.{_≡_, refl, sym, ap, _∙_}
-use mathlib.Core.Bool.{Bool, true, false, _&&_}
 use mathlib.Core.List.{List, [], _∷_}
 use Prim.Native.Nat.{ℕ, suc, _+_, _-_, _*_, _≤_}
 use native.Mathlib.Omega.{arith}
-use borrow.Author.Tests.{leb-true}
-use lib.Dec.{leb}
 use lib.ListN.{length, drop, length-append, length-drop}
 use lib.Seq.{drop-append-add, drop-drop}
-use Rattle.meaning.specs.Tree.{Tree, form, forms}
+use Rattle.meaning.specs.Limits.{formBytes, forestBytes}
+use Rattle.meaning.specs.Tree.{Tree, AllGood, form, forms}
 use Rattle.meaning.specs.Move.{cutAt, forest}
-use Rattle.meaning.specs.Grammar.{TableText}
 use Rattle.meaning.specs.Listing.{counts, flat}
 use Rattle.meaning.specs.Answer.{Answer, accepted, refusal, Outcome, TableMemory, GraphSize, GraphMemory, written, textOf, conclude}
-use Rattle.meaning.specs.Calls.{tableRead, lent, formRead, formCall, cutRead, cutCall, ends, tableCallRead, tableOf, tableCall, GraphBy, lists, GraphCall}
+use Rattle.meaning.specs.Calls.{enough, lent, formCall, cutCall, tableRead, ends, tableSlices, tableCallRead, tableOf, tableCall, graphSlices, GraphBy, lists, GraphCall}
 use Rattle.meaning.proofs.Length.{form-length, forest-length}
 use Rattle.meaning.proofs.Forests.{cutAt-good}
-use Rattle.meaning.proofs.Scan.{and-left, and-right}
-use Rattle.meaning.proofs.TableText.{AllGood}
+use Rattle.meaning.proofs.Lent.{lent-ample}
 use Rattle.meaning.proofs.Counts.{counts-length, flat-few}
 use Rattle.meaning.proofs.Calls.{tells-accepted, form-tells, cut-tells, table-call-tells, graph-tells}
 
@@ -32,37 +28,31 @@ written-behind xs slice k h =
     let e : k ≡ length xs + (k - length xs) = omega arith in
     ap (λ (j : ℕ). drop j (written xs slice)) e ∙ drop-append-add xs (drop (length xs) slice) (k - length xs) ∙ drop-drop (k - length xs) (length xs) slice ∙ sym (ap (λ (j : ℕ). drop j slice) e)
 
--- an answer that accepts was lent enough
-lent-enough : {A : Type 0} (b : Bool) (a : Answer A) {x : A} → lent b a ≡ accepted x → b ≡ true
-lent-enough true a e = refl
-lent-enough false a e = let z : _≡_ {A = ℕ} 0 1 = cc in absurd (omega arith)
-
--- of one slice, and of two
-pub lent-one : {A : Type 0} (least n : ℕ) (a : Answer A) {x : A} → lent (leb least n) a ≡ accepted x → least ≤ n
-lent-one least n a e = leb-true least n (lent-enough (leb least n) a e)
-
-pub lent-both : {A : Type 0} (least n least′ m : ℕ) (a : Answer A) {x : A} → lent (leb least n && leb least′ m) a ≡ accepted x → (least ≤ n) × (least′ ≤ m)
-lent-both least n least′ m a e =
-    let b = lent-enough (leb least n && leb least′ m) a e in
-    (leb-true least n (and-left (leb least n) (leb least′ m) b), leb-true least′ m (and-right (leb least n) (leb least′ m) b))
-
 -- what a call leaves holds where it holds of the memory at entry, and of what is done with an accepted text
 concluded : {A B M : Type 0} (Q : M → Type 0) (a : Answer A) (memory : M) (done : A → Outcome B M) → Q memory → ((x : A) → a ≡ accepted x → Q (done x .memory)) → Q (conclude a memory done .memory)
 concluded Q (accepted x) memory done h f = f x refl
 concluded Q (refusal n i p) memory done h f = h
 
+-- so the one slice keeps its length where each text that is written has at most the stated size
+module _ {A : Type 0} (least : ℕ) (out : List ℕ) (a : Answer A) (text : A → List ℕ) where
+  abbrev asked : Answer A
+  asked = lent (enough ((least, length out) ∷ [])) a
+
+  text-kept : ((x : A) → asked ≡ accepted x → length (text x) ≤ least) → length (conclude asked out (λ x. textOf (text x) out) .memory) ≡ length out
+  text-kept f =
+      concluded (λ (m : List ℕ). length m ≡ length out) asked out (λ x. textOf (text x) out) refl
+      (λ x e. written-length (text x) out (omega (arith, f x e, lent-ample ((least, length out) ∷ []) a e)))
+
 pub form-memory : (s out : List ℕ) → length (formCall s out .memory) ≡ length out
-form-memory s out =
-    concluded (λ (m : List ℕ). length m ≡ length out) (formRead s out) out (λ t. textOf (form t) out) refl
-    (λ t e. written-length (form t) out (omega (arith, form-length (tells-accepted (form-tells s out) e .0), lent-one 309 (length out) _ e)))
+form-memory s out = text-kept formBytes out _ form (λ t e. form-length (tells-accepted (form-tells s out) e .0))
 
 pub cut-memory : (s : List ℕ) (c : ℕ) (out : List ℕ) → length (cutCall s c out .memory) ≡ length out
 cut-memory s c out =
-    concluded (λ (m : List ℕ). length m ≡ length out) (cutRead s c out) out (λ t. textOf (forest (cutAt t c)) out) refl
-    (λ t e. let r = tells-accepted (cut-tells s c out) e in written-length (forest (cutAt t c)) out (omega (arith, forest-length (cutAt t c) (cutAt-good (r .0) c (r .2)), lent-one 307 (length out) _ e)))
+    text-kept forestBytes out _ (λ t. forest (cutAt t c))
+    (λ t e. let r = tells-accepted (cut-tells s c out) e in forest-length (cutAt t c) (cutAt-good (r .0) c (r .2)))
 
 -- the texts of k trees have at most 309 bytes each
-pub forms-length : (ts : List Tree) → AllGood ts → length (forms ts) ≤ 309 * length ts
+pub forms-length : (ts : List Tree) → AllGood ts → length (forms ts) ≤ formBytes * length ts
 unfolding forms
 forms-length [] g = omega arith
 forms-length (t ∷ ts) g = omega (arith, length-append (form t) (forms ts), form-length (g .0), forms-length ts (g .1))
@@ -84,20 +74,15 @@ ends-last from (t ∷ ts) = omega (arith, ends-last (from + length (form t)) ts,
 
 pub table-memory : (s : List ℕ) (memory : TableMemory) → (length (tableCall s memory .memory .texts) ≡ length (memory .texts)) × (length (tableCall s memory .memory .ends) ≡ length (memory .ends))
 table-memory s memory =
-    concluded (λ (m : TableMemory). (length (m .texts) ≡ length (memory .texts)) × (length (m .ends) ≡ length (memory .ends))) (tableCallRead s memory) memory (λ ts. tableOf ts memory) (refl, refl) (λ ts e. fits ts (tells-accepted (table-call-tells s memory) e) (lent-both 49440 (length (memory .texts)) 160 (length (memory .ends)) (tableRead s) e))
-  where
-    fits : (ts : List Tree) → AllGood ts × TableText ts s → (49440 ≤ length (memory .texts)) × (160 ≤ length (memory .ends)) → (length (written (forms ts) (memory .texts)) ≡ length (memory .texts)) × (length (written (ends 0 ts) (memory .ends)) ≡ length (memory .ends))
-    fits ts r b = (
-      written-length (forms ts) (memory .texts) (omega (arith, forms-length ts (r .0), r .1 .few, b .0)),
-      written-length (ends 0 ts) (memory .ends) (omega (arith, ends-length 0 ts, r .1 .few, b .1)),
-    )
+    concluded (λ (m : TableMemory). (length (m .texts) ≡ length (memory .texts)) × (length (m .ends) ≡ length (memory .ends)))
+    (tableCallRead s memory) memory (λ ts. tableOf ts memory) (refl, refl) (λ ts e.
+    let r = tells-accepted (table-call-tells s memory) e in
+    let room = lent-ample (tableSlices memory) (tableRead s) e in
+    (written-length (forms ts) (memory .texts) (omega (arith, forms-length ts (r .0))), written-length (ends 0 ts) (memory .ends) (omega (arith, ends-length 0 ts))))
 
 pub graph-memory : (s : List ℕ) (memory : GraphMemory) (o : Outcome GraphSize GraphMemory) → GraphCall s memory o → (length (o .memory .pairs) ≡ length (memory .pairs)) × (length (o .memory .counts) ≡ length (memory .counts))
 graph-memory s memory o (GraphBy.refuses n i p e) = (refl, refl)
-graph-memory s memory o (lists ts ps e L) = fits (tells-accepted (graph-tells s memory) e) (lent-both 25440 (length (memory .pairs)) 160 (length (memory .counts)) (tableRead s) e)
-  where
-    fits : AllGood ts × TableText ts s → (25440 ≤ length (memory .pairs)) × (160 ≤ length (memory .counts)) → (length (written (flat ps) (memory .pairs)) ≡ length (memory .pairs)) × (length (written (counts (length ts) ps) (memory .counts)) ≡ length (memory .counts))
-    fits r b = (
-      written-length (flat ps) (memory .pairs) (omega (arith, flat-few L (r .1 .few), b .0)),
-      written-length (counts (length ts) ps) (memory .counts) (omega (arith, counts-length (length ts) ps, r .1 .few, b .1)),
-    )
+graph-memory s memory o (lists ts ps e L) =
+    let r = tells-accepted (graph-tells s memory) e in
+    let room = lent-ample (graphSlices memory) (tableRead s) e in
+    (written-length (flat ps) (memory .pairs) (omega (arith, flat-few L (r .1 .few))), written-length (counts (length ts) ps) (memory .counts) (omega (arith, counts-length (length ts) ps)))

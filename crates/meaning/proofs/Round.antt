@@ -8,15 +8,17 @@ use native.Mathlib.Decide.{decLe}
 use native.Mathlib.Omega.{arith}
 use borrow.Author.Tests.{le-leb}
 use lib.ListN.{length, length-map}
-use Rattle.meaning.specs.Tree.{Tree, leaf, fork, leaves, In, tip, Small, Good, _⊆_, canon, digits, write, form, forms}
+use Rattle.meaning.specs.Limits.{maxLabel, maxOpen, maxTrees}
+use Rattle.meaning.specs.Tree.{Tree, leaf, fork, leaves, In, tip, Small, Good, AllGood, _⊆_, canon, digits, write, form, forms}
 use Rattle.meaning.specs.Reading.{got, isDigit, valueAfter, readTree, readTable}
 use Rattle.meaning.specs.Grammar.{All, TokenText, behind, LabelRun, NodeText, is-label, is-fork, depth, TreeText, is-tree, TreesText, none, more, Alike, AllAlike}
 use Rattle.meaning.proofs.Canon.{canon-≈, canon-in, canon-good}
 use Rattle.meaning.proofs.Same.{≈-sym, ≈-in}
 use Rattle.meaning.proofs.Digits.{digits-one, digits-two}
 use Rattle.meaning.proofs.Length.{leaves-64}
+use Rattle.meaning.proofs.Ways.{label-allowed}
 use Rattle.meaning.proofs.Complete.{read-complete}
-use Rattle.meaning.proofs.TableText.{AllGood, table-complete}
+use Rattle.meaning.proofs.TableText.{table-complete}
 
 -- 0 to 9 are written by digits
 digit-is : (d : ℕ) → d ≤ 9 → isDigit (48 + d) ≡ true
@@ -31,32 +33,24 @@ value-two : (n : ℕ) → n ≤ 99 → valueAfter 0 ((48 + n / 10) ∷ (48 + n %
 unfolding valueAfter
 value-two n h = rw (digit-is (n / 10) (omega arith), digit-is (n % 10) (omega arith)) (omega arith)
 
--- the digits of a number write it
-pub digits-value : (n : ℕ) → n ≤ 99 → valueAfter 0 (digits n) ≡ n
-digits-value n h = by (decLe n 9)
-  where
-    by : Dec (n ≤ 9) → valueAfter 0 (digits n) ≡ n
-    by (yes l) = rw (digits-one n l) (value-one n l)
-    by (no m) = rw (digits-two n (omega arith) h) (value-two n h)
-
 -- one digit and two are a label
 run-one : (n : ℕ) → 1 ≤ n → n ≤ 9 → LabelRun n ((48 + n) ∷ [])
 unfolding All
-run-one n l h = let d = digit-is n h in record { digit = (d, tt); begins = d; no-zero = λ z. omega arith; writes = value-one n h }
+run-one n l h = let d = digit-is n h in record { digit = (d, tt); begins = d; allowed = label-allowed _ n (λ z. omega arith) l (omega arith); writes = value-one n h }
 
-run-two : (n : ℕ) → 10 ≤ n → n ≤ 99 → LabelRun n ((48 + n / 10) ∷ (48 + n % 10) ∷ [])
+run-two : (n : ℕ) → 10 ≤ n → n ≤ maxLabel → LabelRun n ((48 + n / 10) ∷ (48 + n % 10) ∷ [])
 unfolding All
 run-two n l h =
     let d = digit-is (n / 10) (omega arith) in
-    record { digit = (d, (digit-is (n % 10) (omega arith), tt)); begins = d; no-zero = λ z. omega arith; writes = value-two n h }
+    record { digit = (d, (digit-is (n % 10) (omega arith), tt)); begins = d; allowed = label-allowed _ n (λ z. omega arith) (omega arith) h; writes = value-two n (omega arith) }
 
 -- the digits of a label are a label
-pub digits-run : (n : ℕ) → 1 ≤ n → n ≤ 99 → LabelRun n (digits n)
+pub digits-run : (n : ℕ) → 1 ≤ n → n ≤ maxLabel → LabelRun n (digits n)
 digits-run n l h = by (decLe n 9)
   where
     by : Dec (n ≤ 9) → LabelRun n (digits n)
     by (yes k) = rw (digits-one n k) (run-one n l k)
-    by (no k) = rw (digits-two n (omega arith) h) (run-two n (omega arith) h)
+    by (no k) = rw (digits-two n (omega arith) (omega arith)) (run-two n (omega arith) h)
 
 -- a token is written without blanks
 token-written : (b : ℕ) → TokenText b (b ∷ [])
@@ -76,7 +70,7 @@ unfolding depth
 depth-leaves (leaf n) = omega arith
 depth-leaves (fork a b) = omega (arith, depth-leaves a, depth-leaves b)
 
-pub depth-63 : {t : Tree} → Good t → depth t ≤ 63
+pub depth-63 : {t : Tree} → Good t → depth t ≤ maxOpen
 depth-63 {t} G = omega (arith, depth-leaves t, leaves-64 G)
 
 -- a form is a text of the canonical tree
@@ -109,5 +103,5 @@ canon-all-alike [] h = tt
 canon-all-alike (t ∷ ts) h = canon-alike t ts h
 
 -- the forms of many trees are read back
-pub read-forms : (ts : List Tree) → AllGood ts → AllAlike ts → length ts ≤ 160 → readTable (forms ts) ≡ got (map canon ts) (length (forms ts))
+pub read-forms : (ts : List Tree) → AllGood ts → AllAlike ts → length ts ≤ maxTrees → readTable (forms ts) ≡ got (map canon ts) (length (forms ts))
 read-forms ts G A few = table-complete (record { trees = forms-text ts G; few = rw length-map few; alike = canon-all-alike ts A })

@@ -8,17 +8,20 @@ use native.Mathlib.Omega.{arith}
 use borrow.Author.Tests.{le-leb, le-ltb}
 use lib.Dec.{T, T-not}
 use lib.ListN.{length}
+use Rattle.meaning.specs.Limits.{formBytes, forestBytes, maxTrees, tableBytes, pairNumbers}
+use Rattle.meaning.specs.Lists.{member, within}
 use Rattle.meaning.specs.Bytes.{bytes}
 use Rattle.meaning.specs.Tree.{Tree, Distinct}
 use Rattle.meaning.specs.Move.{Apart}
-use Rattle.meaning.specs.Reading.{Read, got, refused, isBlank, isDigit, lead, past, valueAfter, value, member, token, labelAt, forkAt, nodeAt, readNode, treeAt, readTree, within, tableFrom, readTable}
+use Rattle.meaning.specs.Reading.{Read, got, refused, isBlank, isDigit, lead, past, valueAfter, value, token, badLabel, labelAt, forkAt, nodeAt, readNode, treeAt, readTree, tableFrom, readTable}
 use Rattle.meaning.specs.Listing.{Pair, Listing, At, treeOf}
 use Rattle.meaning.specs.Decide.{distinct?, apart?}
 use Rattle.meaning.specs.Calls.{is-apart, not-apart, lists}
-use Rattle.meaning.specs.Sheet.{Sheet, prints, firstLine, treeLine, treeLines, pairLines, sheet}
+use Rattle.meaning.specs.Sheet.{Sheet, prints, twoFields, treeLine, treeLines, pairLines, sheet}
 use Rattle.meaning.specs.Samples.{AllHold, samples}
 use Rattle.meaning.proofs.Decide.{distinct-iff, apart-iff}
-use Rattle.meaning.proofs.Listing.{pairsOf, pairsFrom, rowOf, each, apart-listing}
+use Rattle.meaning.specs.Loops.{each, rowOf, pairsFrom}
+use Rattle.meaning.proofs.Calls.{pairsIn, apart-listing}
 
 -- a pair is decided by computation
 pub near : (t u : Tree) → T (distinct? t) → T (distinct? u) → T (apart? t u) → Apart t u
@@ -37,7 +40,7 @@ distinct-at [] d i h = absurd (omega arith)
 distinct-at (t ∷ ts) d zero h = distinct-iff t .0 (d .0)
 distinct-at (t ∷ ts) d (suc i) h = distinct-at ts (d .1) i (omega arith)
 
-pub listed : (ts : List Tree) (ps : List Pair) → Distincts ts → pairsOf (length ts) (λ i j. apart? (treeOf ts i) (treeOf ts j)) ≡ ps → Listing (length ts) (At Apart ts) ps
+pub listed : (ts : List Tree) (ps : List Pair) → Distincts ts → pairsIn ts ≡ ps → Listing (length ts) (At Apart ts) ps
 listed ts ps d e = subst (Listing (length ts) (At Apart ts)) e (apart-listing ts (distinct-at ts d))
 
 -- the trees of a table that is read
@@ -48,57 +51,31 @@ trees (refused n p) = []
 abbrev two : List Tree
 two = trees (readTable (bytes "(((1,2),3),4);((1,2),(3,4));"))
 
+-- one claim and the others
+infixr 20 _and_
+_and_ : {A B : Type 0} → A → B → A × B
+_and_ a b = (a, b)
+
 pub samples-hold : AllHold samples
-unfolding pairsFrom rowOf each isBlank isDigit lead past valueAfter value member token labelAt forkAt nodeAt readNode treeAt readTree within tableFrom readTable
-samples-hold = (
-  λ out h. rw (le-leb 309 (length out) h),
-  (
-    λ out h. rw (le-leb 309 (length out) h),
-    (
-      λ out h. rw (le-leb 309 (length out) h),
-      (
-        λ c out h. rw (le-leb 307 (length out) h, le-ltb c 0 (omega arith)),
-        (
-          λ out h. rw (le-leb 309 (length out) h),
-          (
-            λ out h. rw (le-leb 309 (length out) h),
-            (
-              λ out h. rw (le-leb 309 (length out) h),
-              (
-                λ out h. rw (le-leb 309 (length out) h),
-                (
-                  λ memory h k. rw (le-leb 49440 (length (memory .texts)) h, le-leb 160 (length (memory .ends)) k),
-                  (
-                    λ out h. rw (le-leb 307 (length out) h),
-                    (
-                      λ out h. rw (le-leb 307 (length out) h),
-                      (
-                        is-apart _ _ refl (near _ _ tt tt tt),
-                        (
-                          (_, _, refl, refl),
-                          (
-                            λ memory h k. (two, lists two ((0, 1) ∷ []) (rw (le-leb 25440 (length (memory .pairs)) h, le-leb 160 (length (memory .counts)) k)) (listed two ((0, 1) ∷ []) (tt, (tt, tt)) refl)),
-                            (
-                              not-apart _ _ refl (far _ _ tt tt tt),
-                              (
-                                not-apart _ _ refl (far _ _ tt tt tt),
-                                tt,
-                              ),
-                            ),
-                          ),
-                        ),
-                      ),
-                    ),
-                  ),
-                ),
-              ),
-            ),
-          ),
-        ),
-      ),
-    ),
-  ),
-)
+unfolding pairsFrom rowOf each isBlank isDigit lead past valueAfter value member token badLabel labelAt forkAt nodeAt readNode treeAt readTree within tableFrom readTable
+samples-hold =
+    (λ out h. rw (le-leb formBytes (length out) h))
+    and (λ out h. rw (le-leb formBytes (length out) h))
+    and (λ out h. rw (le-leb formBytes (length out) h))
+    and (λ c out h. rw (le-leb forestBytes (length out) h, le-ltb c 0 (omega arith)))
+    and (λ out h. rw (le-leb formBytes (length out) h))
+    and (λ out h. rw (le-leb formBytes (length out) h))
+    and (λ out h. rw (le-leb formBytes (length out) h))
+    and (λ out h. rw (le-leb formBytes (length out) h))
+    and (λ memory h k. rw (le-leb tableBytes (length (memory .texts)) h, le-leb maxTrees (length (memory .ends)) k))
+    and (λ out h. rw (le-leb forestBytes (length out) h))
+    and (λ out h. rw (le-leb forestBytes (length out) h))
+    and is-apart _ _ refl (near _ _ tt tt tt)
+    and (_, _, refl, refl)
+    and (λ memory h k. (two, lists two ((0, 1) ∷ []) (rw (le-leb pairNumbers (length (memory .pairs)) h, le-leb maxTrees (length (memory .counts)) k)) (listed two ((0, 1) ∷ []) (tt, (tt, tt)) refl)))
+    and not-apart _ _ refl (far _ _ tt tt tt)
+    and not-apart _ _ refl (far _ _ tt tt tt)
+    and tt
 
 -- the sheet that document 01 prints whole
 abbrev input : List ℕ
@@ -111,5 +88,5 @@ abbrev five : List Pair
 five = (0, 2) ∷ (0, 3) ∷ (1, 2) ∷ (1, 3) ∷ (2, 3) ∷ []
 
 pub sheet-holds : Sheet input (bytes "trees 4 pairs 5\ntree 0 neighbours 2 unlinked 1 ((1,2),3);\ntree 1 neighbours 2 unlinked 1 ((1,2),3);\ntree 2 neighbours 3 unlinked 0 (1,(2,3));\ntree 3 neighbours 3 unlinked 0 ((1,3),2);\npair 0 2\npair 0 3\npair 1 2\npair 1 3\npair 2 3\n")
-unfolding pairsFrom rowOf each isBlank isDigit lead past valueAfter value member token labelAt forkAt nodeAt readNode treeAt readTree within tableFrom readTable firstLine treeLine treeLines pairLines sheet
+unfolding pairsFrom rowOf each isBlank isDigit lead past valueAfter value member token badLabel labelAt forkAt nodeAt readNode treeAt readTree within tableFrom readTable twoFields treeLine treeLines pairLines sheet
 sheet-holds = prints four five refl (listed four five (tt, (tt, (tt, (tt, tt)))) refl)

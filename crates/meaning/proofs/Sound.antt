@@ -10,12 +10,16 @@ use native.Mathlib.Omega.{arith}
 use lib.Dec.{lit<}
 use lib.ListN.{length, drop, take, getD, length-append, take-append-drop, drop-of-length-le}
 use lib.Seq.{drop-drop, drop-cons, length-take-le}
+use Rattle.meaning.specs.Limits.{maxLabel, maxOpen}
+use Rattle.meaning.specs.Lists.{member}
 use Rattle.meaning.specs.Tree.{Tree, leaf, fork, labels, In, tip, Good}
-use Rattle.meaning.specs.Reading.{Read, got, refused, isBlank, isDigit, byteAt, lead, past, skip, runEnd, valueAfter, value, member, labelAt, forkAt, readNode, treeAt, readTree}
+use Rattle.meaning.specs.Reading.{Read, got, refused, isBlank, isDigit, byteAt, lead, past, skip, runEnd, valueAfter, value, badLabel, labelAt, forkAt, readNode, treeAt, readTree}
 use Rattle.meaning.specs.Grammar.{All, TokenText, behind, LabelRun, NodeText, is-label, is-fork, depth, TreeText, is-tree, OneText, is-one}
 use Rattle.meaning.proofs.Labels.{in-labels}
-use Rattle.meaning.proofs.Scan.{inside, lead-le, past-ge, past-byte, member-append, in-member, or-left, or-right}
-use Rattle.meaning.proofs.Ways.{Gives, reads, refuses, gives-got, token-gives, then-gives, label-gives, node-gives, whole-gives}
+use Rattle.meaning.proofs.Logic.{clash, or-left, or-right, cases}
+use Rattle.meaning.proofs.Lists.{member-append, in-member}
+use Rattle.meaning.proofs.Scan.{inside, lead-le, past-ge, past-byte}
+use Rattle.meaning.proofs.Ways.{Gives, reads, refuses, gives-got, token-gives, then-gives, label-range, label-gives, node-gives, whole-gives}
 use Rattle.meaning.proofs.Complete.{New, at-byte, value-all, one-complete}
 
 -- x stands in s from p up to e
@@ -34,11 +38,7 @@ then-from {s} {e} {x} {y} X Y = record {
 run-all : (test : ℕ → Bool) (y : List ℕ) → All test (take (lead test y) y)
 unfolding All lead
 run-all test [] = tt
-run-all test (b ∷ y) = by (test b) refl (run-all test y)
-  where
-    by : (d : Bool) → test b ≡ d → All test (take (lead test y) y) → All test (take (cond d (suc (lead test y)) 0) (b ∷ y))
-    by true e h = (e, h)
-    by false e h = tt
+run-all test (b ∷ y) = cases (λ d. All test (take (cond d (suc (lead test y)) 0) (b ∷ y))) (test b) (λ e. (e, run-all test y)) (λ _. tt)
 
 -- and is as long as it is counted
 run-length : (test : ℕ → Bool) (y : List ℕ) → length (take (lead test y) y) ≡ lead test y
@@ -85,7 +85,7 @@ pub record Sound (room : ℕ) (s : List ℕ) (p : ℕ) (seen : List ℕ) (t : Tr
 
 -- the run of digits begins with the byte there
 run-first : (r y : List ℕ) → isDigit (getD (r ++ y) 0 0) ≡ true → isDigit (getD y 0 0) ≡ false → getD (r ++ y) 0 0 ≡ getD r 0 0
-run-first [] y h z = let w : _≡_ {A = ℕ} 0 1 = cc in absurd (omega arith)
+run-first [] y h z = clash cc
 run-first (b ∷ r) y h z = refl
 
 -- a label at q
@@ -110,27 +110,27 @@ module _ (s : List ℕ) (q : ℕ) (h : isDigit (byteAt s q) ≡ true) where
   unfolding value
   ds-value = sym (ap (valueAfter 0) ds-here ∙ value-all 0 ds rest (run-is isDigit s q) ds-next)
 
-  label-run : (byteAt s q ≡ 48 → ⊥) → LabelRun (value s q) ds
-  label-run no-zero = record { digit = run-is isDigit s q; begins = ap isDigit (sym ds-first) ∙ h; no-zero = λ z. no-zero (ds-first ∙ z); writes = ds-value }
+  label-run : badLabel (byteAt s q) (value s q) ≡ false → LabelRun (value s q) ds
+  label-run allowed = record { digit = run-is isDigit s q; begins = ap isDigit (sym ds-first) ∙ h; allowed = rw (← ds-first) allowed; writes = ds-value }
 
 -- a label of 1 to 64 that was not seen makes a leaf
-leaf-good : {v : ℕ} → 1 ≤ v → v ≤ 64 → Good (leaf v)
+pub leaf-good : {v : ℕ} → 1 ≤ v → v ≤ maxLabel → Good (leaf v)
 leaf-good {v} l h = record { distinct = tt; small = small }
   where
-    small : (k : ℕ) → In k (leaf v) → (1 ≤ k) × (k ≤ 64)
+    small : (k : ℕ) → In k (leaf v) → (1 ≤ k) × (k ≤ maxLabel)
     small k tip = (l, h)
 
-leaf-new : {v : ℕ} (seen : List ℕ) → member v seen ≡ false → New (leaf v) seen
+pub leaf-new : {v : ℕ} (seen : List ℕ) → member v seen ≡ false → New (leaf v) seen
 leaf-new seen m l tip = m
 
 label-sound : (room : ℕ) (s : List ℕ) (p : ℕ) (seen : List ℕ) → isDigit (byteAt s (skip s p)) ≡ true → Gives (Sound room s p seen) Silent (labelAt s (skip s p) seen)
 unfolding depth
-label-sound room s p seen h = label-gives s (skip s p) seen tt tt (λ no-zero low high m. record {
+label-sound room s p seen h = label-gives s (skip s p) seen tt tt (λ allowed m. record {
   text = run isBlank s p ++ run isDigit s (skip s p);
-  derives = is-label (run isBlank s p) (run-is isBlank s p) (label-run s (skip s p) h no-zero);
+  derives = is-label (run isBlank s p) (run-is isBlank s p) (label-run s (skip s p) h allowed);
   stands = then-from (run-from isBlank s p) (run-from isDigit s (skip s p));
   deep = omega arith;
-  good = leaf-good low high;
+  good = let r = label-range _ _ allowed in leaf-good (r .0) (r .1);
   new = leaf-new seen m;
 })
 
@@ -143,8 +143,7 @@ module _ (a b : Tree) (seen : List ℕ) (N : New b (seen ++ labels a)) where
   second-apart l i j =
       let m = in-member (in-labels i) in
       let n = or-right (member l seen) (member l (labels a)) (second-new l j) in
-      let z : _≡_ {A = ℕ} 0 1 = cc in
-      omega arith
+      clash cc
 
   fork-new : New a seen → New (fork a b) seen
   fork-new M l (In.first i) = M l i
@@ -153,7 +152,7 @@ module _ (a b : Tree) (seen : List ℕ) (N : New b (seen ++ labels a)) where
   fork-good : Good a → Good b → Good (fork a b)
   fork-good A B = record { distinct = (A .distinct, B .distinct, second-apart); small = small }
     where
-      small : (l : ℕ) → In l (fork a b) → (1 ≤ l) × (l ≤ 64)
+      small : (l : ℕ) → In l (fork a b) → (1 ≤ l) × (l ≤ maxLabel)
       small l (In.first i) = A .small l i
       small l (In.second i) = B .small l i
 
@@ -194,7 +193,7 @@ pub record SoundTree (s : List ℕ) (p : ℕ) (t : Tree) (e : ℕ) : Type 0 wher
   pub behind-it : (p < e) × (e ≤ length s) × (byteAt s (e - 1) ≡ 59)
 
 module _ (s : List ℕ) (p : ℕ) where
-  tree-is : (t : Tree) (q : ℕ) → Sound 63 s p [] t q → byteAt s (skip s q) ≡ 59 → SoundTree s p t (skip s q + 1)
+  tree-is : (t : Tree) (q : ℕ) → Sound maxOpen s p [] t q → byteAt s (skip s q) ≡ 59 → SoundTree s p t (skip s q + 1)
   tree-is t q S h =
       let inner = inside s (skip s q) h (lit< tt) in
       let back : skip s q + 1 - 1 ≡ skip s q = omega arith in
@@ -208,7 +207,7 @@ module _ (s : List ℕ) (p : ℕ) where
   -- every answer of the reader of a tree is so
   pub tree-gives : Gives (SoundTree s p) Silent (treeAt s p)
   unfolding treeAt
-  tree-gives = then-gives _ (sound 63 s p []) λ t q S. token-gives 59 s q _ tt λ h. reads (tree-is t q S h)
+  tree-gives = then-gives _ (sound maxOpen s p []) λ t q S. token-gives 59 s q _ tt λ h. reads (tree-is t q S h)
 
 -- a tree that is read is a tree text
 pub tree-sound : (s : List ℕ) (p : ℕ) (t : Tree) (e : ℕ) → treeAt s p ≡ got t e → SoundTree s p t e

@@ -1,9 +1,9 @@
--- Sums over the positions 0 to k - 1, and tests as the numbers 1 and 0.
+-- Sums over lists and over the positions 0 to k - 1, tests as the numbers 1 and 0, and how many numbers can differ.
 -- Assumes nothing.
 use mathlib.Core.Path.{_≡_, refl, sym, ap, _∙_}
 use mathlib.Core.Logic.{_≢_}
-use mathlib.Core.Bool.{Bool, true, false, cond, _&&_, _||_}
-use mathlib.Core.List.{List, [], _∷_, _++_, map, map-append}
+use mathlib.Core.Bool.{Bool, true, false, _&&_, _||_, and-comm}
+use mathlib.Core.List.{List, [], _∷_, _++_, map, map-append, List·Memᴰ, List·Memᴰ·head, List·Memᴰ·tail, Memᴰ·cast}
 use Prim.Native.Nat.{ℕ, zero, suc, _+_, _*_, _≤_, _<_}
 use native.Mathlib.Nat.{zero-mul, suc-mul}
 use native.Mathlib.Omega.{arith}
@@ -12,21 +12,7 @@ use borrow.Author.Tests.{eq-eqb, ne-eqb}
 use lib.Dec.{T, eqb}
 use lib.ListN.{length, getD, length-append, List·getD-append}
 use lib.Seq.{getD-at}
-use Rattle.meaning.specs.Listing.{count, positions}
-
--- the sum of a list
-abbrev pub sum : List ℕ → ℕ
-sum [] = 0
-sum (x ∷ xs) = x + sum xs
-
--- f 0 + f 1 + .. + f (k - 1)
-abbrev pub upto : (ℕ → ℕ) → ℕ → ℕ
-upto f zero = 0
-upto f (suc k) = upto f k + f k
-
--- 1 where the test passes, and 0 where it fails
-abbrev pub bit : Bool → ℕ
-bit b = cond b 1 0
+use Rattle.meaning.specs.Lists.{NoDup, count, positions, sum, upto, bit}
 
 sum-append : (xs ys : List ℕ) → sum (xs ++ ys) ≡ sum xs + sum ys
 sum-append [] ys = omega arith
@@ -104,12 +90,6 @@ bit-or true true f = absurd (f tt tt)
 bit-or true false f = refl
 bit-or false b f = omega arith
 
-and-comm : (a b : Bool) → a && b ≡ b && a
-and-comm true true = refl
-and-comm true false = refl
-and-comm false true = refl
-and-comm false false = refl
-
 eq-bit : (x j : ℕ) → x ≡ j → bit (eqb x j) ≡ 1
 eq-bit x j e = ap bit (eq-eqb x j e)
 
@@ -137,3 +117,61 @@ upto-and false x k h = omega (arith, upto-const 0 k)
 -- the two tests the other way round
 pub and-upto : (b : Bool) (x k : ℕ) → x < k → upto (λ j. bit (eqb x j && b)) k ≡ bit b
 and-upto b x k h = upto-same (λ j. bit (eqb x j && b)) (λ j. bit (b && eqb x j)) k (λ j _. ap bit (and-comm (eqb x j) b)) ∙ upto-and b x k h
+
+-- the sum of a cost for each member
+abbrev pub total : (ℕ → ℕ) → List ℕ → ℕ
+total f xs = sum (map f xs)
+
+pub total-append : (f : ℕ → ℕ) (xs ys : List ℕ) → total f (xs ++ ys) ≡ total f xs + total f ys
+total-append f xs ys = ap sum (map-append f xs ys) ∙ sum-append (map f xs) (map f ys)
+
+-- a list without one of its members
+without : {x : ℕ} {ys : List ℕ} → List·Memᴰ x ys → List ℕ
+without (List·Memᴰ·head {xs} e) = xs
+without (List·Memᴰ·tail {x} m) = x ∷ without m
+
+without-total : (f : ℕ → ℕ) {x : ℕ} {ys : List ℕ} (m : List·Memᴰ x ys) → total f ys ≡ f x + total f (without m)
+unfolding without
+without-total f (List·Memᴰ·head {xs} e) = ap (λ (k : ℕ). f k + total f xs) (sym e)
+without-total f (List·Memᴰ·tail m) = omega (arith, without-total f m)
+
+without-mem : {x l : ℕ} {ys : List ℕ} (m : List·Memᴰ x ys) → l ≢ x → List·Memᴰ l ys → List·Memᴰ l (without m)
+unfolding without
+without-mem (List·Memᴰ·head e) h (List·Memᴰ·head f) = absurd (h (f ∙ sym e))
+without-mem (List·Memᴰ·head e) h (List·Memᴰ·tail n) = n
+without-mem (List·Memᴰ·tail m) h (List·Memᴰ·head f) = List·Memᴰ·head f
+without-mem (List·Memᴰ·tail m) h (List·Memᴰ·tail n) = List·Memᴰ·tail (without-mem m h n)
+
+-- distinct members of a list cost no more than the list
+pub total-le : (f : ℕ → ℕ) (xs ys : List ℕ) → NoDup xs → ((l : ℕ) → List·Memᴰ l xs → List·Memᴰ l ys) → total f xs ≤ total f ys
+total-le f [] ys a g = omega arith
+total-le f (x ∷ xs) ys a g =
+    let m = g x (List·Memᴰ·head refl) in
+    omega (arith, without-total f m, total-le f xs (without m) (a .1) (λ l n. without-mem m (λ e. a .0 (Memᴰ·cast (sym e) n)) (g l (List·Memᴰ·tail n))))
+
+-- n down to 1
+unfoldable pub oneTo : ℕ → List ℕ
+oneTo zero = []
+oneTo (suc n) = suc n ∷ oneTo n
+
+pub oneTo-mem : (n l : ℕ) → 1 ≤ l → l ≤ n → List·Memᴰ l (oneTo n)
+unfolding oneTo
+oneTo-mem zero l h k = absurd (omega arith)
+oneTo-mem (suc n) l h k = go (ℕ-discrete l (suc n)) (λ q. oneTo-mem n l h q)
+  where
+    go : Dec (l ≡ suc n) → (l ≤ n → List·Memᴰ l (oneTo n)) → List·Memᴰ l (suc n ∷ oneTo n)
+    go (yes e) f = List·Memᴰ·head e
+    go (no q) f = List·Memᴰ·tail (f (omega arith))
+
+-- numbers from 1 to n that occur once are at most n
+ones : (xs : List ℕ) → total (λ _. 1) xs ≡ length xs
+ones [] = refl
+ones (x ∷ xs) = omega (arith, ones xs)
+
+oneTo-length : (n : ℕ) → length (oneTo n) ≡ n
+unfolding oneTo
+oneTo-length zero = refl
+oneTo-length (suc n) = ap suc (oneTo-length n)
+
+pub few : (n : ℕ) (xs : List ℕ) → NoDup xs → ((l : ℕ) → List·Memᴰ l xs → (1 ≤ l) × (l ≤ n)) → length xs ≤ n
+few n xs once range = omega (arith, total-le (λ _. 1) xs (oneTo n) once (λ l m. oneTo-mem n l (range l m .0) (range l m .1)), ones xs, ones (oneTo n), oneTo-length n)

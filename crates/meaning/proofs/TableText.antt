@@ -2,26 +2,22 @@
 -- Assumes nothing.
 use mathlib.Core.Path.{_≡_, refl, sym, ap, subst, _∙_}
 use mathlib.Core.Logic.{_↔_}
-use mathlib.Core.Bool.{true}
 use mathlib.Core.List.{List, [], _∷_, _++_, append-nil, append-assoc}
 use Prim.Native.Nat.{ℕ, zero, suc, _+_, _-_, _≤_, _<_}
 use native.Mathlib.Omega.{arith}
 use lib.ListN.{length, drop, length-drop}
-use Rattle.meaning.specs.Tree.{Tree, Good}
+use Rattle.meaning.specs.Limits.{maxOpen, maxTrees}
+use Rattle.meaning.specs.Tree.{Tree, Good, AllGood}
 use Rattle.meaning.specs.Reading.{got, isBlank, skip, nodeAt, readNode, treeAt, likeFirst, tableFrom, readTable}
 use Rattle.meaning.specs.Listing.{treeOf}
-use Rattle.meaning.specs.Grammar.{AllAlike, TreesText, none, more, TableText}
-use Rattle.meaning.proofs.Scan.{past-past, skip-le}
+use Rattle.meaning.specs.Grammar.{TreesText, none, more, TableText}
+use Rattle.meaning.proofs.Scan.{past-past}
 use Rattle.meaning.proofs.Ways.{Gives, refuses, gives-got, gives-map, then-gives, end-gives, like-gives, table-ends, table-next}
 use Rattle.meaning.proofs.Complete.{at-next, blanks-end, tree-complete}
 use Rattle.meaning.proofs.Sound.{run, run-is, Silent, SoundTree, tree-gives, tree-behind, blanks-left, text-good}
 use Rattle.meaning.proofs.Alike.{Like, like-none, like-more, like-first, like-rest}
 
--- all trees can be held in a text
-abbrev pub AllGood : List Tree → Type 0
-AllGood [] = Unit {0}
-AllGood (t ∷ ts) = Good t × AllGood ts
-
+-- each of good trees is good
 pub good-at : (ts : List Tree) → AllGood ts → (i : ℕ) → i < length ts → Good (treeOf ts i)
 good-at [] g i h = absurd (omega arith)
 good-at (t ∷ ts) g zero h = g .0
@@ -41,7 +37,7 @@ module _ (s : List ℕ) (p : ℕ) where
 
   pub tree-skip : treeAt s (skip s p) ≡ treeAt s p
   unfolding treeAt
-  tree-skip = rw (node-skip 63 [])
+  tree-skip = rw (node-skip maxOpen [])
 
 -- the trees of a text are read, behind the trees ts
 trees-complete : {us : List Tree} {x : List ℕ} → TreesText us x → (slots : ℕ) (s : List ℕ) (p : ℕ) (ts : List Tree) → p ≤ length s → drop p s ≡ x → length us ≤ slots → Like ts us
@@ -58,41 +54,39 @@ trees-complete (more {t} {ts = us} {x} {y} T R) slots s p ts h here few alike =
 -- so each table of the grammar is read
 pub table-complete : {ts : List Tree} {s : List ℕ} → TableText ts s → readTable s ≡ got ts (length s)
 unfolding readTable
-table-complete {ts} {s} T = trees-complete (T .trees) 160 s 0 [] (omega arith) refl (T .few) (T .alike)
+table-complete {ts} {s} T = trees-complete (T .trees) maxTrees s 0 [] (omega arith) refl (T .few) (T .alike)
 
 -- a text is the text of one table only
 pub one-table : {ts us : List Tree} {s : List ℕ} → TableText ts s → TableText us s → ts ≡ us
 one-table T U = let e = table-complete T in let f = table-complete U in cc
 
 -- what is known of a table that was read from p on, behind the trees ts
-record SoundTable (slots : ℕ) (s : List ℕ) (p : ℕ) (ts us : List Tree) (e : ℕ) : Type 0 where
+record SoundTable (slots : ℕ) (s : List ℕ) (p : ℕ) (ts us : List Tree) : Type 0 where
   others : List Tree
   all : us ≡ ts ++ others
   derives : TreesText others (drop p s)
   few : length others ≤ slots
   alike : Like ts others
-  ends : e ≡ length s
 
 -- no tree more
-none-sound : (slots : ℕ) (s : List ℕ) (p : ℕ) (ts : List Tree) → p ≤ length s → length s ≤ skip s p → SoundTable slots s p ts ts (skip s p)
-none-sound slots s p ts h l = record {
+none-sound : (slots : ℕ) (s : List ℕ) (p : ℕ) (ts : List Tree) → length s ≤ skip s p → SoundTable slots s p ts ts
+none-sound slots s p ts l = record {
   others = [];
   all = sym (append-nil ts);
   derives = subst (TreesText []) (sym (blanks-left s p l)) (none (run isBlank s p) (run-is isBlank s p));
   few = omega arith;
   alike = like-none ts;
-  ends = omega (arith, skip-le isBlank s p h);
 }
 
 -- a tree more
-more-sound : (slots : ℕ) (s : List ℕ) (p : ℕ) (ts : List Tree) (t : Tree) (q : ℕ) (us : List Tree) (e : ℕ) → SoundTree s p t q → likeFirst ts t ≡ true → SoundTable slots s q (ts ++ (t ∷ [])) us e → SoundTable (suc slots) s p ts us e
-more-sound slots s p ts t q us e S f R = record {
+more-sound : (slots : ℕ) (s : List ℕ) (p : ℕ) (ts : List Tree) (t : Tree) (q : ℕ) (us : List Tree) → SoundTree s p t q → likeFirst ts t ≡ 0
+    → SoundTable slots s q (ts ++ (t ∷ [])) us → SoundTable (suc slots) s p ts us
+more-sound slots s p ts t q us S f R = record {
   others = t ∷ R .others;
   all = R .all ∙ append-assoc ts (t ∷ []) (R .others);
   derives = subst (TreesText (t ∷ R .others)) (sym (S .stands .split)) (more (S .derives) (R .derives));
   few = omega (arith, R .few);
   alike = like-more t (R .others) ts f (R .alike);
-  ends = R .ends;
 }
 
 -- the next tree is read alike from before its blanks
@@ -100,33 +94,26 @@ skip-gives : (s : List ℕ) (p : ℕ) → Gives (SoundTree s p) Silent (treeAt s
 skip-gives s p = rw (tree-skip s p) (tree-gives s p)
 
 -- a table that is read is a text of the grammar
-from-gives : (slots : ℕ) (s : List ℕ) (p : ℕ) (ts : List Tree) → p ≤ length s → Gives (SoundTable slots s p ts) Silent (tableFrom slots s (skip s p) ts)
+from-gives : (slots : ℕ) (s : List ℕ) (p : ℕ) (ts : List Tree) → Gives (λ us e. SoundTable slots s p ts us) Silent (tableFrom slots s (skip s p) ts)
 unfolding tableFrom
-from-gives zero s p ts h = end-gives s ts (skip s p) _ (none-sound zero s p ts h) (λ l. refuses tt)
-from-gives (suc slots) s p ts h =
-    end-gives s ts (skip s p) _ (none-sound (suc slots) s p ts h) λ l.
+from-gives zero s p ts = end-gives s ts (skip s p) _ (none-sound zero s p ts) (λ l. refuses tt)
+from-gives (suc slots) s p ts =
+    end-gives s ts (skip s p) _ (none-sound (suc slots) s p ts) λ l.
     then-gives _ (skip-gives s p) λ t q S.
-    like-gives (likeFirst ts t) t q _ tt λ f.
-    gives-map (λ us e. more-sound slots s p ts t q us e S f) (from-gives slots s q (ts ++ (t ∷ [])) (S .behind-it .1))
+    like-gives (likeFirst ts t) t q _ (λ m e. tt) λ f.
+    gives-map (λ us e. more-sound slots s p ts t q us S f) (λ n e h. h) (from-gives slots s q (ts ++ (t ∷ [])))
 
 module _ (s : List ℕ) (ts : List Tree) (p : ℕ) (h : readTable s ≡ got ts p) where
-  table-read : SoundTable 160 s 0 [] ts p
+  table-read : SoundTable maxTrees s 0 [] ts
   unfolding readTable
-  table-read = gives-got (from-gives 160 s 0 [] (omega arith)) h
+  table-read = gives-got (from-gives maxTrees s 0 []) h
 
   table-sound : TableText ts s
   table-sound = rw (table-read .all) (record { trees = table-read .derives; few = table-read .few; alike = table-read .alike })
 
-  -- a table is read to the end of its text
-  pub table-end : p ≡ length s
-  table-end = table-read .ends
-
-  -- at most 160 trees are read, with one label set
-  pub table-few : length ts ≤ 160
+  -- at most 160 trees are read
+  pub table-few : length ts ≤ maxTrees
   table-few = table-sound .few
-
-  pub table-alike : AllAlike ts
-  table-alike = table-sound .alike
 
   -- only good trees are read
   pub table-good : AllGood ts

@@ -6,9 +6,11 @@ use mathlib.Core.List.{List, [], _∷_, _++_, append-assoc}
 use Prim.Native.Nat.{ℕ, _+_, _/_, _%_, _≤_}
 use native.Mathlib.Omega.{arith}
 use native.Mathlib.Decide.{decLe}
+use Rattle.meaning.specs.Limits.{maxLabel}
 use Rattle.meaning.specs.Tree.{Tree, leaf, fork, In, tip, Small, Good, SameTopology, canon, digits, write, form}
 use Rattle.meaning.specs.Move.{Cut, parts, forest}
 use Rattle.meaning.proofs.Digits.{digits-one, digits-two}
+use Rattle.meaning.proofs.Same.{good-first, good-second}
 use Rattle.meaning.proofs.Canon.{canon-good, topology-iff-canon}
 
 -- a text that does not begin with a digit
@@ -17,7 +19,7 @@ Stop [] = Unit {0}
 Stop (x ∷ xs) = 48 ≤ x → x ≤ 57 → ⊥
 
 -- a label ends where no digit follows
-digits-read : (m n : ℕ) (xs ys : List ℕ) → m ≤ 64 → n ≤ 64 → Stop xs → Stop ys → digits m ++ xs ≡ digits n ++ ys → (m ≡ n) × (xs ≡ ys)
+digits-read : (m n : ℕ) (xs ys : List ℕ) → m ≤ maxLabel → n ≤ maxLabel → Stop xs → Stop ys → digits m ++ xs ≡ digits n ++ ys → (m ≡ n) × (xs ≡ ys)
 digits-read m n xs ys h k f g e = go (decLe m 9) (decLe n 9)
   where
     go : Dec (m ≤ 9) → Dec (n ≤ 9) → (m ≡ n) × (xs ≡ ys)
@@ -28,7 +30,7 @@ digits-read m n xs ys h k f g e = go (decLe m 9) (decLe n 9)
         let d = rw (digits-two m (omega arith) (omega arith), digits-two n (omega arith) (omega arith)) at e in
         let i : 48 + m / 10 ≡ 48 + n / 10 = cc in let j : 48 + m % 10 ≡ 48 + n % 10 = cc in (omega arith, cc)
 
-digits-no-bracket : (m : ℕ) (xs ys : List ℕ) → m ≤ 64 → digits m ++ xs ≡ 40 ∷ ys → ⊥
+digits-no-bracket : (m : ℕ) (xs ys : List ℕ) → m ≤ maxLabel → digits m ++ xs ≡ 40 ∷ ys → ⊥
 digits-no-bracket m xs ys h e = go (decLe m 9)
   where
     go : Dec (m ≤ 9) → ⊥
@@ -51,9 +53,6 @@ write-read (fork a b) (fork c d) xs ys A B f g e =
     let (s, t) = write-read b d (41 ∷ xs) (41 ∷ ys) (λ l i. A l (In.second i)) (λ l i. B l (In.second i)) (omega arith) (omega arith) r′ in
     (ap₂ fork q s, cc t)
 
-pub write-inj : (a b : Tree) → Small a → Small b → write a ≡ write b → a ≡ b
-write-inj a b A B e = write-read a b [] [] A B tt tt (ap (λ (xs : List ℕ). xs ++ []) e) .0
-
 -- equal canonical texts, one topology
 pub form-iff : {t u : Tree} → Good t → Good u → (form t ≡ form u) ↔ SameTopology t u
 form-iff {t} {u} G H =
@@ -62,26 +61,26 @@ form-iff {t} {u} G H =
       λ p. ap (λ (v : Tree). write v ++ (59 ∷ [])) (e .0 p),
     )
 
-pub good-rest : (c : Cut) → Good (parts c) → Good (c .rest)
-good-rest c G = record { distinct = G .distinct .1; small = λ l i. G .small l (In.second i) }
-
-pub good-pruned : (c : Cut) → Good (parts c) → Good (c .pruned)
-good-pruned c G = record { distinct = G .distinct .0; small = λ l i. G .small l (In.first i) }
+-- the components of two cuts have the same canonical forms
+abbrev pub SameCanon : Cut → Cut → Type 0
+SameCanon c d = (canon (c .rest) ≡ canon (d .rest)) × (canon (c .pruned) ≡ canon (d .pruned))
 
 -- equal forest texts, one remainder and one pruned tree
-pub forest-canon : (c d : Cut) → Good (parts c) → Good (parts d) → forest c ≡ forest d → (canon (c .rest) ≡ canon (d .rest)) × (canon (c .pruned) ≡ canon (d .pruned))
+pub forest-canon : (c d : Cut) → Good (parts c) → Good (parts d) → forest c ≡ forest d → SameCanon c d
 forest-canon c d G H e =
-    let (i, j) = write-read (canon (c .rest)) (canon (d .rest)) (32 ∷ (write (canon (c .pruned)) ++ (59 ∷ []))) (32 ∷ (write (canon (d .pruned)) ++ (59 ∷ []))) (canon-good (good-rest c G) .small) (canon-good (good-rest d H) .small) (omega arith) (omega arith) (simp append-assoc at e) in
-    let k : write (canon (c .pruned)) ++ (59 ∷ []) ≡ write (canon (d .pruned)) ++ (59 ∷ []) = cc j in
-    (i, write-read (canon (c .pruned)) (canon (d .pruned)) (59 ∷ []) (59 ∷ []) (canon-good (good-pruned c G) .small) (canon-good (good-pruned d H) .small) (omega arith) (omega arith) k .0)
+    let p : List ℕ = write (canon (c .pruned)) ++ (59 ∷ []) in
+    let q : List ℕ = write (canon (d .pruned)) ++ (59 ∷ []) in
+    let (i, j) = write-read (canon (c .rest)) (canon (d .rest)) (32 ∷ p) (32 ∷ q) (canon-good (good-second G) .small) (canon-good (good-second H) .small) (omega arith) (omega arith) (simp append-assoc at e) in
+    let k : p ≡ q = cc j in
+    (i, write-read (canon (c .pruned)) (canon (d .pruned)) (59 ∷ []) (59 ∷ []) (canon-good (good-first G) .small) (canon-good (good-first H) .small) (omega arith) (omega arith) k .0)
 
-pub canon-forest : (c d : Cut) → canon (c .rest) ≡ canon (d .rest) → canon (c .pruned) ≡ canon (d .pruned) → forest c ≡ forest d
-canon-forest c d p q = ap₂ (λ (r s : Tree). write r ++ (32 ∷ write s) ++ (59 ∷ [])) p q
+pub canon-forest : (c d : Cut) → SameCanon c d → forest c ≡ forest d
+canon-forest c d e = ap₂ (λ (r s : Tree). write r ++ (32 ∷ write s) ++ (59 ∷ [])) (e .0) (e .1)
 
 pub forest-iff : (c d : Cut) → Good (parts c) → Good (parts d) → (forest c ≡ forest d) ↔ (SameTopology (c .rest) (d .rest) × SameTopology (c .pruned) (d .pruned))
 forest-iff c d G H =
     let rest = topology-iff-canon (G .distinct .1) (H .distinct .1) in
     let pruned = topology-iff-canon (G .distinct .0) (H .distinct .0) in (
       λ e. let (p, q) = forest-canon c d G H e in (rest .1 p, pruned .1 q),
-      λ e. canon-forest c d (rest .0 (e .0)) (pruned .0 (e .1)),
+      λ e. canon-forest c d (rest .0 (e .0), pruned .0 (e .1)),
     )

@@ -1,17 +1,19 @@
 -- The ways through a token, a label, a node and a table; and what can be said of an answer from what can be said of its parts.
 -- Assumes nothing.
 use mathlib.Core.Path.{_≡_, refl}
-use mathlib.Core.Bool.{Bool, true, false, cond, _||_}
+use mathlib.Core.Bool.{true, false, cond, _||_}
 use mathlib.Core.List.{List, [], _∷_, _++_}
 use Prim.Native.Nat.{ℕ, zero, suc, _+_, _-_, _<_, _≤_}
 use native.Mathlib.Numerals.{sub-one}
 use native.Mathlib.Omega.{arith}
-use borrow.Author.Tests.{eqb-true, eqb-false, eq-eqb, ne-eqb, lt-ltb, le-ltb, ltb-true, ltb-false}
+use borrow.Author.Tests.{eqb-true, eq-eqb, ne-eqb, lt-ltb, le-ltb, ltb-true, ltb-false}
 use lib.Dec.{ltb, eqb}
 use lib.ListN.{length}
+use Rattle.meaning.specs.Limits.{maxLabel}
+use Rattle.meaning.specs.Lists.{member}
 use Rattle.meaning.specs.Tree.{Tree, leaf}
-use Rattle.meaning.specs.Reading.{Read, got, refused, isDigit, byteAt, skip, runEnd, value, member, andThen, orWrong, token, badLabel, labelAt, forkAt, nodeAt, readNode, treeAt, readTree, likeFirst, orDiffers, orEnd, tableFrom}
-use Rattle.meaning.proofs.Scan.{or-left, or-right}
+use Rattle.meaning.specs.Reading.{Read, got, refused, isDigit, byteAt, skip, runEnd, value, andThen, orWrong, token, badLabel, labelAt, forkAt, nodeAt, readNode, treeAt, readTree, likeFirst, orDiffers, orEnd, tableFrom}
+use Rattle.meaning.proofs.Logic.{clash, or-left, or-right, cases}
 
 -- the token stands there, or another byte does
 module _ {A : Type 0} (b : ℕ) (s : List ℕ) (p : ℕ) (next : ℕ → Read A) where
@@ -23,27 +25,32 @@ module _ {A : Type 0} (b : ℕ) (s : List ℕ) (p : ℕ) (next : ℕ → Read A)
   unfolding token
   token-no h = rw (ne-eqb (byteAt s (skip s p)) b h)
 
+-- the rule for labels: one that it allows is 1 to 64
+pub label-range : (b v : ℕ) → badLabel b v ≡ false → (1 ≤ v) × (v ≤ maxLabel)
+unfolding badLabel
+label-range b v e =
+    let r = or-right (eqb b 48) (ltb v 1 || ltb maxLabel v) e in
+    (ltb-false v 1 (or-left (ltb v 1) (ltb maxLabel v) r), ltb-false maxLabel v (or-right (ltb v 1) (ltb maxLabel v) r))
+
+-- and one of 1 to 64 that begins with no zero is allowed
+pub label-allowed : (b v : ℕ) → (b ≡ 48 → ⊥) → 1 ≤ v → v ≤ maxLabel → badLabel b v ≡ false
+unfolding badLabel
+label-allowed b v f l h = rw (ne-eqb b 48 f, le-ltb v 1 l, le-ltb maxLabel v h)
+
 -- the ways through a label
 module _ (s : List ℕ) (q : ℕ) (seen : List ℕ) where
-  pub label-zero : byteAt s q ≡ 48 → labelAt s q seen ≡ refused 2 q
+  pub label-bad : badLabel (byteAt s q) (value s q) ≡ true → labelAt s q seen ≡ refused 2 q
   unfolding labelAt
-  label-zero h = rw (eq-eqb (byteAt s q) 48 h)
+  label-bad h = rw h
 
-  pub label-low : (byteAt s q ≡ 48 → ⊥) → value s q < 1 → labelAt s q seen ≡ refused 2 q
-  unfolding labelAt
-  label-low h l = rw (ne-eqb (byteAt s q) 48 h, lt-ltb (value s q) 1 l)
+  module _ (allowed : badLabel (byteAt s q) (value s q) ≡ false) where
+    pub label-again : member (value s q) seen ≡ true → labelAt s q seen ≡ refused 3 q
+    unfolding labelAt
+    label-again m = rw (allowed, m)
 
-  pub label-high : (byteAt s q ≡ 48 → ⊥) → 1 ≤ value s q → 64 < value s q → labelAt s q seen ≡ refused 2 q
-  unfolding labelAt
-  label-high h l u = rw (ne-eqb (byteAt s q) 48 h, le-ltb (value s q) 1 l, lt-ltb 64 (value s q) u)
-
-  pub label-again : (byteAt s q ≡ 48 → ⊥) → 1 ≤ value s q → value s q ≤ 64 → member (value s q) seen ≡ true → labelAt s q seen ≡ refused 3 q
-  unfolding labelAt
-  label-again h l u m = rw (ne-eqb (byteAt s q) 48 h, le-ltb (value s q) 1 l, le-ltb 64 (value s q) u, m)
-
-  pub label-new : (byteAt s q ≡ 48 → ⊥) → 1 ≤ value s q → value s q ≤ 64 → member (value s q) seen ≡ false → labelAt s q seen ≡ got (leaf (value s q)) (runEnd s q)
-  unfolding labelAt
-  label-new h l u m = rw (ne-eqb (byteAt s q) 48 h, le-ltb (value s q) 1 l, le-ltb 64 (value s q) u, m)
+    pub label-new : member (value s q) seen ≡ false → labelAt s q seen ≡ got (leaf (value s q)) (runEnd s q)
+    unfolding labelAt
+    label-new m = rw (allowed, m)
 
 -- the ways through a node
 module _ (s : List ℕ) (p : ℕ) (seen : List ℕ) where
@@ -67,21 +74,6 @@ module _ (s : List ℕ) (p : ℕ) (seen : List ℕ) where
   node-fork zero h f e = absurd (e refl)
   node-fork (suc room) h f e = rw (sub-one, h, eq-eqb (byteAt s (skip s p)) 40 f)
 
--- what came of it was read: so was what went before
-module _ {A B : Type 0} where
-  pub then-inv : (r : Read A) (next : A → ℕ → Read B) (c : B) (e : ℕ) → andThen r next ≡ got c e → (a : A) × (q : ℕ) × (r ≡ got a q) × (next a q ≡ got c e)
-  then-inv (got a q) next c e h = (a, q, refl, h)
-  then-inv (refused n q) next c e h = let z : _≡_ {A = ℕ} 0 1 = cc in absurd (omega arith)
-
-module _ {A : Type 0} (b : ℕ) (s : List ℕ) (p : ℕ) (next : ℕ → Read A) where
-  pub token-inv : (a : A) (e : ℕ) → token b s p next ≡ got a e → (byteAt s (skip s p) ≡ b) × (next (skip s p + 1) ≡ got a e)
-  unfolding token
-  token-inv a e h = by (eqb (byteAt s (skip s p)) b) refl h
-    where
-      by : (d : Bool) → eqb (byteAt s (skip s p)) b ≡ d → orWrong d (skip s p) (λ q. next (q + 1)) ≡ got a e → (byteAt s (skip s p) ≡ b) × (next (skip s p + 1) ≡ got a e)
-      by true z h = (eqb-true (byteAt s (skip s p)) b z, h)
-      by false z h = let w : _≡_ {A = ℕ} 0 1 = cc in absurd (omega arith)
-
 -- P of what was read and the place behind it, or Q of the number and the place
 pub data Gives {A : Type 0} (P : A → ℕ → Type 0) (Q : ℕ → ℕ → Type 0) : Read A → Type 0 where
   reads : {a : A} {p : ℕ} → P a p → Gives P Q (got a p)
@@ -91,25 +83,22 @@ module _ {A : Type 0} {P : A → ℕ → Type 0} {Q : ℕ → ℕ → Type 0} wh
   -- so an answer that is known tells which of the two
   pub gives-got : {r : Read A} {a : A} {p : ℕ} → Gives P Q r → r ≡ got a p → P a p
   gives-got {a} {p} (reads {a = b} {p = q} h) e = let x : b ≡ a = cc in let y : q ≡ p = cc in rw (← x, ← y) h
-  gives-got (refuses h) e = let z : _≡_ {A = ℕ} 0 1 = cc in absurd (omega arith)
+  gives-got (refuses h) e = clash cc
 
   pub gives-refused : {r : Read A} {n p : ℕ} → Gives P Q r → r ≡ refused n p → Q n p
-  gives-refused (reads h) e = let z : _≡_ {A = ℕ} 0 1 = cc in absurd (omega arith)
+  gives-refused (reads h) e = clash cc
   gives-refused {n} {p} (refuses {n = m} {p = q} h) e = let x : m ≡ n = cc in let y : q ≡ p = cc in rw (← x, ← y) h
 
   -- a token: the rest, or line 1
   pub token-gives : (b : ℕ) (s : List ℕ) (p : ℕ) (next : ℕ → Read A) → Q 1 (skip s p) → (byteAt s (skip s p) ≡ b → Gives P Q (next (skip s p + 1))) → Gives P Q (token b s p next)
   unfolding token
-  token-gives b s p next wrong goes-on = by (eqb (byteAt s (skip s p)) b) refl
-    where
-      by : (d : Bool) → eqb (byteAt s (skip s p)) b ≡ d → Gives P Q (orWrong d (skip s p) (λ q. next (q + 1)))
-      by true e = goes-on (eqb-true (byteAt s (skip s p)) b e)
-      by false e = refuses wrong
+  token-gives b s p next wrong goes-on =
+      cases (λ d. Gives P Q (orWrong d (skip s p) (λ q. next (q + 1)))) (eqb (byteAt s (skip s p)) b) (λ e. goes-on (eqb-true (byteAt s (skip s p)) b e)) (λ _. refuses wrong)
 
--- more is known of what was read
-pub gives-map : {A : Type 0} {P P′ : A → ℕ → Type 0} {Q : ℕ → ℕ → Type 0} {r : Read A} → ((a : A) (p : ℕ) → P a p → P′ a p) → Gives P Q r → Gives P′ Q r
-gives-map f (reads {a} {p} h) = reads (f a p h)
-gives-map f (refuses h) = refuses h
+-- more is known of what was read, or of a refusal
+pub gives-map : {A : Type 0} {P P′ : A → ℕ → Type 0} {Q Q′ : ℕ → ℕ → Type 0} {r : Read A} → ((a : A) (p : ℕ) → P a p → P′ a p) → ((n p : ℕ) → Q n p → Q′ n p) → Gives P Q r → Gives P′ Q′ r
+gives-map f g (reads {a} {p} h) = reads (f a p h)
+gives-map f g (refuses {n} {p} h) = refuses (g n p h)
 
 -- one thing after another
 pub then-gives : {A B : Type 0} {P : A → ℕ → Type 0} {P′ : B → ℕ → Type 0} {Q : ℕ → ℕ → Type 0} {r : Read A} (next : A → ℕ → Read B)
@@ -120,53 +109,41 @@ then-gives next (refuses h) f = refuses h
 module _ {P : Tree → ℕ → Type 0} {Q : ℕ → ℕ → Type 0} (s : List ℕ) where
   -- a label: line 2, line 3, or a leaf
   pub label-gives : (q : ℕ) (seen : List ℕ) → Q 2 q → Q 3 q
-      → ((byteAt s q ≡ 48 → ⊥) → 1 ≤ value s q → value s q ≤ 64 → member (value s q) seen ≡ false → P (leaf (value s q)) (runEnd s q)) → Gives P Q (labelAt s q seen)
+      → (badLabel (byteAt s q) (value s q) ≡ false → member (value s q) seen ≡ false → P (leaf (value s q)) (runEnd s q)) → Gives P Q (labelAt s q seen)
   unfolding labelAt
-  label-gives q seen bad again new = by (badLabel s q) refl (member (value s q) seen) refl
-    where
-      by : (d : Bool) → badLabel s q ≡ d → (m : Bool) → member (value s q) seen ≡ m → Gives P Q (cond d (refused 2 q) (cond m (refused 3 q) (got (leaf (value s q)) (runEnd s q))))
-      by true z m y = refuses bad
-      by false z true y = refuses again
-      by false z false y =
-          let low : Bool = ltb (value s q) 1 in
-          let high : Bool = ltb 64 (value s q) in
-          let r = or-right (eqb (byteAt s q) 48) (low || high) z in
-          reads (new (eqb-false (byteAt s q) 48 (or-left (eqb (byteAt s q) 48) (low || high) z)) (ltb-false (value s q) 1 (or-left low high r)) (ltb-false 64 (value s q) (or-right low high r)) y)
+  label-gives q seen bad again new =
+      let fits : Read Tree = got (leaf (value s q)) (runEnd s q) in
+      cases (λ d. Gives P Q (cond d (refused 2 q) (cond (member (value s q) seen) (refused 3 q) fits))) (badLabel (byteAt s q) (value s q)) (λ _. refuses bad)
+      (λ e. cases (λ d. Gives P Q (cond d (refused 3 q) fits)) (member (value s q) seen) (λ _. refuses again) (λ f. reads (new e f)))
 
   -- a node: line 1, a label, or what a bracket gives
   pub node-gives : (bracket : ℕ → Read Tree) (p : ℕ) (seen : List ℕ) → Q 1 (skip s p) → (isDigit (byteAt s (skip s p)) ≡ true → Gives P Q (labelAt s (skip s p) seen))
       → (byteAt s (skip s p) ≡ 40 → Gives P Q (bracket (skip s p))) → Gives P Q (nodeAt bracket s p seen)
   unfolding nodeAt
-  node-gives bracket p seen wrong label opens = by (isDigit (byteAt s (skip s p))) refl (eqb (byteAt s (skip s p)) 40) refl
-    where
-      by : (d : Bool) → isDigit (byteAt s (skip s p)) ≡ d → (m : Bool) → eqb (byteAt s (skip s p)) 40 ≡ m → Gives P Q (cond d (labelAt s (skip s p) seen) (orWrong m (skip s p) bracket))
-      by true z m y = label z
-      by false z true y = opens (eqb-true (byteAt s (skip s p)) 40 y)
-      by false z false y = refuses wrong
+  node-gives bracket p seen wrong label opens =
+      let b : ℕ = byteAt s (skip s p) in
+      cases (λ d. Gives P Q (cond d (labelAt s (skip s p) seen) (orWrong (eqb b 40) (skip s p) bracket))) (isDigit b) label
+      (λ _. cases (λ d. Gives P Q (orWrong d (skip s p) bracket)) (eqb b 40) (λ e. opens (eqb-true b 40 e)) (λ _. refuses wrong))
 
   -- a text with one tree: a tree behind which the text ends, or line 1 where it goes on
   pub whole-gives : {P′ : Tree → ℕ → Type 0} → Gives P′ Q (treeAt s 0) → ((t : Tree) (p : ℕ) → P′ t p → skip s p < length s → Q 1 (skip s p))
       → ((t : Tree) (p : ℕ) → P′ t p → length s ≤ skip s p → P t p) → Gives P Q (readTree s)
   unfolding readTree
-  whole-gives {P′} tree more ends = then-gives _ tree (λ t p h. by t p h (ltb (skip s p) (length s)) refl)
-    where
-      by : (t : Tree) (p : ℕ) → P′ t p → (d : Bool) → ltb (skip s p) (length s) ≡ d → Gives P Q (cond d (refused 1 (skip s p)) (got t p))
-      by t p h true e = refuses (more t p h (ltb-true (skip s p) (length s) e))
-      by t p h false e = reads (ends t p h (ltb-false (skip s p) (length s) e))
+  whole-gives tree more ends =
+      then-gives _ tree λ t p h.
+      cases (λ d. Gives P Q (cond d (refused 1 (skip s p)) (got t p))) (ltb (skip s p) (length s))
+      (λ e. refuses (more t p h (ltb-true (skip s p) (length s) e))) (λ e. reads (ends t p h (ltb-false (skip s p) (length s) e)))
 
 -- at a place of a table: the end, or more
 module _ {P : List Tree → ℕ → Type 0} {Q : ℕ → ℕ → Type 0} where
   pub end-gives : (s : List ℕ) (ts : List Tree) (q : ℕ) (next : ℕ → Read (List Tree)) → (length s ≤ q → P ts q) → (q < length s → Gives P Q (next q)) → Gives P Q (orEnd (ltb q (length s)) ts q next)
-  end-gives s ts q next ends more = by (ltb q (length s)) refl
-    where
-      by : (d : Bool) → ltb q (length s) ≡ d → Gives P Q (orEnd d ts q next)
-      by true e = more (ltb-true q (length s) e)
-      by false e = reads (ends (ltb-false q (length s) e))
+  end-gives s ts q next ends more =
+      cases (λ d. Gives P Q (orEnd d ts q next)) (ltb q (length s)) (λ e. more (ltb-true q (length s) e)) (λ e. reads (ends (ltb-false q (length s) e)))
 
-  -- a tree that is like the first, or line 5
-  pub like-gives : (d : Bool) (t : Tree) (p : ℕ) (next : Tree → ℕ → Read (List Tree)) → Q 5 (p - 1) → (d ≡ true → Gives P Q (next t p)) → Gives P Q (orDiffers d t p next)
-  like-gives true t p next differs alike = alike refl
-  like-gives false t p next differs alike = refuses differs
+  -- a tree that is like the first, or the line that says why it is not
+  pub like-gives : (n : ℕ) (t : Tree) (p : ℕ) (next : Tree → ℕ → Read (List Tree)) → ((m : ℕ) → n ≡ suc m → Q (suc m) (p - 1)) → (n ≡ 0 → Gives P Q (next t p)) → Gives P Q (orDiffers n t p next)
+  like-gives zero t p next differs alike = alike refl
+  like-gives (suc m) t p next differs alike = refuses (differs m refl)
 
 -- the ways through a table: its end, one tree too many, and a tree
 pub table-ends : (slots : ℕ) (s : List ℕ) (q : ℕ) (ts : List Tree) → length s ≤ q → tableFrom slots s q ts ≡ got ts q

@@ -1,35 +1,50 @@
 -- The five calls: from the texts, the cut number and the lent memory at entry to the answer and the memory at exit.
 -- Assumes nothing.
 use mathlib.Core.Path.{_≡_}
-use mathlib.Core.Bool.{Bool, true, false, cond, _&&_}
+use mathlib.Core.Bool.{Bool, true, false, cond}
 use mathlib.Core.List.{List, [], _∷_}
-use Prim.Native.Nat.{ℕ, _+_, _-_, _*_}
+use Prim.Native.Nat.{ℕ, zero, suc, _+_, _-_, _*_}
 use lib.Dec.{leb, ltb}
 use lib.ListN.{length}
+use Rattle.meaning.specs.Limits.{textBytes, formBytes, forestBytes, maxTrees, tableBytes, pairNumbers}
+use Rattle.meaning.specs.Lists.{every}
 use Rattle.meaning.specs.Tree.{Tree, leaves, form, forms}
 use Rattle.meaning.specs.Move.{cutAt, forest, Apart}
-use Rattle.meaning.specs.Reading.{Read, got, refused, readTree, readTable, sameLabels}
+use Rattle.meaning.specs.Reading.{Read, got, refused, readTree, readTable, unlike}
 use Rattle.meaning.specs.Listing.{Pair, Listing, At, counts, flat}
 use Rattle.meaning.specs.Answer.{Answer, accepted, refusal, Outcome, TableSize, TableMemory, GraphSize, GraphMemory, written, textOf, onward, conclude}
 
--- line 7, before any text is looked at: every lent slice has the stated size
+-- a lent slice: the stated size, and its length
+abbrev pub Slice : Type 0
+Slice = (least : ℕ) × ℕ
+
+-- every slice has at least the stated size
+abbrev pub enough : List Slice → Bool
+enough slices = every (λ slice. leb (slice .0) (slice .1)) slices
+
+-- line 7, before any text is looked at: a lent slice is shorter than stated
 abbrev pub lent : {A : Type 0} → Bool → Answer A → Answer A
 lent true a = a
 lent false a = refusal 7 0 0
 
 -- line 8: text number i has at most 65,535 bytes
 abbrev pub limited : {A : Type 0} → ℕ → List ℕ → Answer A → Answer A
-limited i s a = cond (ltb 65535 (length s)) (refusal 8 i 0) a
+limited i s a = cond (ltb textBytes (length s)) (refusal 8 i 0) a
 
 -- what reading text number i gives
 abbrev pub answered : {A : Type 0} → ℕ → Read A → Answer A
 answered i (got a p) = accepted a
 answered i (refused n p) = refusal n i p
 
--- form call, 309 bytes lent: the canonical text of the one tree
-abbrev pub formRead : List ℕ → List ℕ → Answer Tree
-formRead s out = lent (leb 309 (length out)) (limited 0 s (answered 0 (readTree s)))
+-- lent to the form call: 309 bytes
+abbrev pub formSlices : List ℕ → List Slice
+formSlices out = (formBytes, length out) ∷ []
 
+-- what the form call reads: exactly one tree
+abbrev pub formRead : List ℕ → List ℕ → Answer Tree
+formRead s out = lent (enough (formSlices out)) (limited 0 s (answered 0 (readTree s)))
+
+-- form call: its canonical text
 abbrev pub formCall : List ℕ → List ℕ → Outcome ℕ (List ℕ)
 formCall s out = conclude (formRead s out) out λ t. textOf (form t) out
 
@@ -37,23 +52,33 @@ formCall s out = conclude (formRead s out) out λ t. textOf (form t) out
 abbrev pub hasCut : ℕ → Tree → Answer Tree
 hasCut c t = cond (ltb c (2 * leaves t - 2)) (accepted t) (refusal 9 0 0)
 
--- cut call, 307 bytes lent: the forest text of cut c
-abbrev pub cutRead : List ℕ → ℕ → List ℕ → Answer Tree
-cutRead s c out = lent (leb 307 (length out)) (limited 0 s (onward (answered 0 (readTree s)) (hasCut c)))
+-- lent to the cut call: 307 bytes
+abbrev pub cutSlices : List ℕ → List Slice
+cutSlices out = (forestBytes, length out) ∷ []
 
+-- what the cut call reads: exactly one tree, which has the cut
+abbrev pub cutRead : List ℕ → ℕ → List ℕ → Answer Tree
+cutRead s c out = lent (enough (cutSlices out)) (limited 0 s (onward (answered 0 (readTree s)) (hasCut c)))
+
+-- cut call: the forest text of cut c
 abbrev pub cutCall : List ℕ → ℕ → List ℕ → Outcome ℕ (List ℕ)
 cutCall s c out = conclude (cutRead s c out) out λ t. textOf (forest (cutAt t c)) out
 
--- the second tree of a pair beside the first: line 5, at the `;` of text 1
+-- the two trees of a pair, where no line says that the second can't stand beside the first; else that line, at the `;` of text 1
+abbrev pub together : ℕ → Tree → Tree → ℕ → Answer ((t : Tree) × Tree)
+together zero t u p = accepted (t, u)
+together (suc n) t u p = refusal (suc n) 1 (p - 1)
+
+-- the second tree of a pair beside the first
 abbrev pub beside : Tree → Read Tree → Answer ((t : Tree) × Tree)
-beside t (got u p) = cond (sameLabels t u) (accepted (t, u)) (refusal 5 1 (p - 1))
+beside t (got u p) = together (unlike t u) t u p
 beside t (refused n p) = refusal n 1 p
 
--- pair call: both lengths, then text 0 whole, then text 1
+-- what the pair call reads: both lengths, then text 0 whole, then text 1
 abbrev pub pairRead : List ℕ → List ℕ → Answer ((t : Tree) × Tree)
 pairRead s s′ = limited 0 s (limited 1 s′ (onward (answered 0 (readTree s)) λ t. beside t (readTree s′)))
 
--- yes exactly when the two trees are one move apart
+-- pair call: yes exactly when the two trees are one move apart
 pub data PairCall (s s′ : List ℕ) : Answer Bool → Type 0 where
   is-apart : (t u : Tree) → pairRead s s′ ≡ accepted (t, u) → Apart t u → PairCall s s′ (accepted true)
   not-apart : (t u : Tree) → pairRead s s′ ≡ accepted (t, u) → ¬ Apart t u → PairCall s s′ (accepted false)
@@ -68,9 +93,13 @@ unfoldable pub ends : ℕ → List Tree → List ℕ
 ends from [] = []
 ends from (t ∷ ts) = (from + length (form t)) ∷ ends (from + length (form t)) ts
 
--- table call, 49,440 bytes and 160 numbers lent
+-- lent to the table call: 49,440 bytes and 160 numbers
+abbrev pub tableSlices : TableMemory → List Slice
+tableSlices memory = (tableBytes, length (memory .texts)) ∷ (maxTrees, length (memory .ends)) ∷ []
+
+-- what the table call reads
 abbrev pub tableCallRead : List ℕ → TableMemory → Answer (List Tree)
-tableCallRead s memory = lent (leb 49440 (length (memory .texts)) && leb 160 (length (memory .ends))) (tableRead s)
+tableCallRead s memory = lent (enough (tableSlices memory)) (tableRead s)
 
 -- the canonical texts one after another, and the end of each
 abbrev pub tableOf : List Tree → TableMemory → Outcome TableSize TableMemory
@@ -79,12 +108,17 @@ tableOf ts memory = record {
   memory = record { texts = written (forms ts) (memory .texts); ends = written (ends 0 ts) (memory .ends) };
 }
 
+-- table call
 abbrev pub tableCall : List ℕ → TableMemory → Outcome TableSize TableMemory
 tableCall s memory = conclude (tableCallRead s memory) memory λ ts. tableOf ts memory
 
--- graph call, 25,440 and 160 numbers lent
+-- lent to the graph call: 25,440 numbers for pairs and 160 for counts
+abbrev pub graphSlices : GraphMemory → List Slice
+graphSlices memory = (pairNumbers, length (memory .pairs)) ∷ (maxTrees, length (memory .counts)) ∷ []
+
+-- what the graph call reads
 abbrev pub graphRead : List ℕ → GraphMemory → Answer (List Tree)
-graphRead s memory = lent (leb 25440 (length (memory .pairs)) && leb 160 (length (memory .counts))) (tableRead s)
+graphRead s memory = lent (enough (graphSlices memory)) (tableRead s)
 
 -- the pairs ps of the trees ts, and the neighbour counts
 abbrev pub graphOf : List Tree → List Pair → GraphMemory → Outcome GraphSize GraphMemory
@@ -98,6 +132,6 @@ pub data GraphBy (R : Tree → Tree → Type 0) (s : List ℕ) (memory : GraphMe
   lists : (ts : List Tree) (ps : List Pair) → graphRead s memory ≡ accepted ts → Listing (length ts) (At R ts) ps → GraphBy R s memory (graphOf ts ps memory)
   refuses : (n i p : ℕ) → graphRead s memory ≡ refusal n i p → GraphBy R s memory (record { answer = refusal n i p; memory = memory })
 
--- the graph call lists the pairs that are one move apart
+-- graph call: the pairs that are one move apart
 abbrev pub GraphCall : List ℕ → GraphMemory → Outcome GraphSize GraphMemory → Type 0
 GraphCall s memory outcome = GraphBy Apart s memory outcome

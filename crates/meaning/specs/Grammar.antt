@@ -1,12 +1,13 @@
 -- The tree text of document 01 as a grammar: which texts are a tree's or a table's, with no word on how they are read.
 -- Assumes nothing.
 use mathlib.Core.Path.{_≡_}
-use mathlib.Core.Bool.{Bool, true}
+use mathlib.Core.Bool.{Bool, true, false}
 use mathlib.Core.List.{List, [], _∷_, _++_}
 use Prim.Native.Nat.{ℕ, suc, max, _≤_}
 use lib.ListN.{length, getD}
+use Rattle.meaning.specs.Limits.{maxOpen, maxTrees}
 use Rattle.meaning.specs.Tree.{Tree, leaf, fork, Good, SameClade}
-use Rattle.meaning.specs.Reading.{isBlank, isDigit, valueAfter}
+use Rattle.meaning.specs.Reading.{isBlank, isDigit, valueAfter, badLabel}
 
 -- every byte passes the test
 unfoldable pub All : (ℕ → Bool) → List ℕ → Type 0
@@ -17,11 +18,11 @@ All test (b ∷ x) = (test b ≡ true) × All test x
 pub data TokenText (b : ℕ) : List ℕ → Type 0 where
   behind : (x : List ℕ) → All isBlank x → TokenText b (x ++ (b ∷ []))
 
--- a label is a run of decimal digits, with no leading zero
+-- a label is a run of decimal digits: no leading zero, value 1 to 64
 pub record LabelRun (v : ℕ) (y : List ℕ) : Type 0 where
   pub digit : All isDigit y
   pub begins : isDigit (getD y 0 0) ≡ true
-  pub no-zero : getD y 0 0 ≡ 48 → ⊥
+  pub allowed : badLabel (getD y 0 0) v ≡ false
   pub writes : valueAfter 0 y ≡ v
 
 -- a node is a label, before which blanks may stand, or `(` node `,` node `)`
@@ -37,7 +38,7 @@ depth (fork a b) = suc (max (depth a) (depth b))
 
 -- a tree text is a node and then `;`; labels are 1 to 64, none twice, and at most 63 brackets are open at once
 pub data TreeText (t : Tree) : List ℕ → Type 0 where
-  is-tree : {x y : List ℕ} → NodeText t x → TokenText 59 y → Good t → depth t ≤ 63 → TreeText t (x ++ y)
+  is-tree : {x y : List ℕ} → NodeText t x → TokenText 59 y → Good t → depth t ≤ maxOpen → TreeText t (x ++ y)
 
 -- one tree, and blanks after its `;`
 pub data OneText (t : Tree) : List ℕ → Type 0 where
@@ -62,5 +63,5 @@ AllAlike (t ∷ ts) = Alike t ts
 -- a table is zero to 160 trees, all with the label set of the first
 pub record TableText (ts : List Tree) (s : List ℕ) : Type 0 where
   pub trees : TreesText ts s
-  pub few : length ts ≤ 160
+  pub few : length ts ≤ maxTrees
   pub alike : AllAlike ts

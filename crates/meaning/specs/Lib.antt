@@ -3,9 +3,13 @@ pub mod Bytes
 pub mod Calls
 pub mod Decide
 pub mod Grammar
+pub mod Limits
 pub mod Listing
+pub mod Lists
+pub mod Loops
 pub mod Move
 pub mod Reading
+pub mod Refusals
 pub mod Samples
 pub mod Sheet
 pub mod Tree

@@ -2,11 +2,12 @@
 -- Assumes nothing.
 use mathlib.Core.Path.{_≡_}
 use mathlib.Core.Logic.{_↔_, _⊎_}
-use mathlib.Core.Bool.{Bool, cond, _||_}
-use mathlib.Core.List.{List, [], _∷_, _++_, map, List·Memᴰ}
-use Prim.Native.Nat.{ℕ, zero, suc, _+_, _-_, _<_}
+use mathlib.Core.Bool.{Bool, _||_}
+use mathlib.Core.List.{List, [], _∷_, map, List·Memᴰ}
+use Prim.Native.Nat.{ℕ, _-_, _<_}
 use lib.Dec.{eqb}
 use lib.ListN.{getD}
+use Rattle.meaning.specs.Lists.{count, positions}
 use Rattle.meaning.specs.Tree.{Tree, leaf}
 
 -- two positions, i and then j
@@ -35,11 +36,6 @@ treeOf ts i = getD ts i (leaf 0)
 abbrev pub At : (Tree → Tree → Type 0) → List Tree → ℕ → ℕ → Type 0
 At R ts i j = R (treeOf ts i) (treeOf ts j)
 
--- how many members of a list pass the test
-abbrev pub count : {A : Type 0} → (A → Bool) → List A → ℕ
-count test [] = 0
-count test (x ∷ xs) = cond (test x) 1 0 + count test xs
-
 -- position i is one of the pair's
 abbrev pub touches : ℕ → Pair → Bool
 touches i p = eqb (p .0) i || eqb (p .1) i
@@ -47,11 +43,6 @@ touches i p = eqb (p .0) i || eqb (p .1) i
 -- the neighbour count of position i: the listed pairs that it stands in
 abbrev pub neighbours : List Pair → ℕ → ℕ
 neighbours ps i = count (touches i) ps
-
--- the positions 0 to k - 1
-unfoldable pub positions : ℕ → List ℕ
-positions zero = []
-positions (suc k) = positions k ++ (k ∷ [])
 
 -- the neighbour counts of the positions, in order
 abbrev pub counts : ℕ → List Pair → List ℕ

@@ -5,6 +5,8 @@ use mathlib.Core.List.{List, [], _∷_, _++_}
 use Prim.Native.Nat.{ℕ, zero, suc, _+_, _-_, _*_}
 use lib.Dec.{leb, ltb, eqb}
 use lib.ListN.{length, drop, getD}
+use Rattle.meaning.specs.Limits.{maxLabel, maxOpen, maxTrees}
+use Rattle.meaning.specs.Lists.{member, within}
 use Rattle.meaning.specs.Tree.{Tree, leaf, fork, labels}
 
 -- what was read and the place behind it; or a number of the refusal list and the place
@@ -50,11 +52,6 @@ valueAfter v (b ∷ s) = cond (isDigit b) (valueAfter (v * 10 + (b - 48)) s) v
 unfoldable pub value : List ℕ → ℕ → ℕ
 value s p = valueAfter 0 (drop p s)
 
--- v is in the list
-unfoldable pub member : ℕ → List ℕ → Bool
-member v [] = false
-member v (x ∷ xs) = eqb x v || member v xs
-
 -- go on behind what was read; a refusal stands
 abbrev pub andThen : {A B : Type 0} → Read A → (A → ℕ → Read B) → Read B
 andThen (got a p) next = next a p
@@ -69,14 +66,14 @@ orWrong false q next = refused 1 q
 unfoldable pub token : {A : Type 0} → ℕ → List ℕ → ℕ → (ℕ → Read A) → Read A
 token b s p next = orWrong (eqb (byteAt s (skip s p)) b) (skip s p) (λ q. next (q + 1))
 
--- a label has a leading zero or is not 1 to 64
-abbrev pub badLabel : List ℕ → ℕ → Bool
-badLabel s q = eqb (byteAt s q) 48 || (ltb (value s q) 1 || ltb 64 (value s q))
+-- a label that begins with the byte b and has the value v breaks the rule: a leading zero, or not 1 to 64
+unfoldable pub badLabel : ℕ → ℕ → Bool
+badLabel b v = eqb b 48 || (ltb v 1 || ltb maxLabel v)
 
 -- the label whose first digit is at q, where `seen` are the labels before it in this tree: line 2, then line 3
 unfoldable pub labelAt : List ℕ → ℕ → List ℕ → Read Tree
 labelAt s q seen =
-    cond (badLabel s q) (refused 2 q)
+    cond (badLabel (byteAt s q) (value s q)) (refused 2 q)
     (cond (member (value s q) seen) (refused 3 q)
     (got (leaf (value s q)) (runEnd s q)))
 
@@ -103,30 +100,29 @@ readNode (suc room) s p seen = nodeAt (λ q. forkAt (readNode room s) s (q + 1) 
 
 -- a tree: a node and `;`, at most 63 brackets open at once
 unfoldable pub treeAt : List ℕ → ℕ → Read Tree
-treeAt s p = andThen (readNode 63 s p []) λ t p₁. token 59 s p₁ λ p₂. got t p₂
+treeAt s p = andThen (readNode maxOpen s p []) λ t p₁. token 59 s p₁ λ p₂. got t p₂
 
 -- a text with exactly one tree: behind its `;` are blanks only
 unfoldable pub readTree : List ℕ → Read Tree
 readTree s = andThen (treeAt s 0) λ t p. cond (ltb (skip s p) (length s)) (refused 1 (skip s p)) (got t p)
 
--- each number of the one list is in the other
-unfoldable pub within : List ℕ → List ℕ → Bool
-within [] ys = true
-within (x ∷ xs) ys = member x ys && within xs ys
-
 -- the two trees have the same labels
 abbrev pub sameLabels : Tree → Tree → Bool
 sameLabels t u = within (labels t) (labels u) && within (labels u) (labels t)
 
--- t has the labels of the first tree, if there is one
-abbrev pub likeFirst : List Tree → Tree → Bool
-likeFirst [] t = true
-likeFirst (first ∷ ts) t = sameLabels first t
+-- the line that says why u can't stand beside t: 5 where the labels differ, 0 where none does
+abbrev pub unlike : Tree → Tree → ℕ
+unlike t u = cond (sameLabels t u) 0 5
 
--- go on behind the tree t, which ends at p; where its labels differ, line 5 at its `;`
-abbrev pub orDiffers : Bool → Tree → ℕ → (Tree → ℕ → Read (List Tree)) → Read (List Tree)
-orDiffers true t p next = next t p
-orDiffers false t p next = refused 5 (p - 1)
+-- why t can't stand behind the trees of a table: it has to be like the first, if there is one
+abbrev pub likeFirst : List Tree → Tree → ℕ
+likeFirst [] t = 0
+likeFirst (first ∷ ts) t = unlike first t
+
+-- go on behind the tree t, which ends at p, where no line says that it can't stand there; else that line, at its `;`
+abbrev pub orDiffers : ℕ → Tree → ℕ → (Tree → ℕ → Read (List Tree)) → Read (List Tree)
+orDiffers zero t p next = next t p
+orDiffers (suc n) t p next = refused (suc n) (p - 1)
 
 -- go on at q where there is a byte; at the end all trees are read
 abbrev pub orEnd : Bool → List Tree → ℕ → (ℕ → Read (List Tree)) → Read (List Tree)
@@ -144,4 +140,4 @@ tableFrom (suc slots) s q ts =
 
 -- a table: zero to 160 trees
 unfoldable pub readTable : List ℕ → Read (List Tree)
-readTable s = tableFrom 160 s (skip s 0) []
+readTable s = tableFrom maxTrees s (skip s 0) []

@@ -6,6 +6,7 @@ use mathlib.Core.List.{List, [], _∷_}
 use Prim.Native.Nat.{ℕ, _≤_}
 use Prim.Native.String.{String}
 use lib.ListN.{length}
+use Rattle.meaning.specs.Limits.{formBytes, forestBytes, maxTrees, tableBytes, pairNumbers}
 use Rattle.meaning.specs.Bytes.{bytes}
 use Rattle.meaning.specs.Tree.{Tree}
 use Rattle.meaning.specs.Listing.{Pair}
@@ -26,22 +27,24 @@ pub data Sample : Type 0 where
   lists : (table : String) (pairs : List Pair) → Sample
 
 -- the claim of a sample, whatever memory of the stated size is lent
-abbrev pub Holds : Sample → Type 0
-Holds (has-form x y) = (out : List ℕ) → 309 ≤ length out → formCall (bytes x) out ≡ record { answer = accepted (length (bytes y)); memory = written (bytes y) out }
-Holds (form-refused x n p) = (out : List ℕ) → 309 ≤ length out → formCall (bytes x) out ≡ record { answer = refusal n 0 p; memory = out }
-Holds (no-cuts x) = (c : ℕ) (out : List ℕ) → 307 ≤ length out → cutCall (bytes x) c out ≡ record { answer = refusal 9 0 0; memory = out }
-Holds (has-cut x c y) = (out : List ℕ) → 307 ≤ length out → cutCall (bytes x) c out ≡ record { answer = accepted (length (bytes y)); memory = written (bytes y) out }
-Holds (table-refused x n p) = (memory : TableMemory) → 49440 ≤ length (memory .texts) → 160 ≤ length (memory .ends) → tableCall (bytes x) memory ≡ record { answer = refusal n 0 p; memory = memory }
-Holds (yes-apart x y) = PairCall (bytes x) (bytes y) (accepted true)
-Holds (no-apart x y) = PairCall (bytes x) (bytes y) (accepted false)
-Holds (shares x y n) = (t : Tree) × (u : Tree) × (pairRead (bytes x) (bytes y) ≡ accepted (t, u)) × (shared t u ≡ n)
-Holds (lists x ps) = (memory : GraphMemory) → 25440 ≤ length (memory .pairs) → 160 ≤ length (memory .counts) → (ts : List Tree) × GraphCall (bytes x) memory (graphOf ts ps memory)
+abbrev pub Claim : Sample → Type 0
+Claim (has-form x y) = (out : List ℕ) → formBytes ≤ length out → formCall (bytes x) out ≡ record { answer = accepted (length (bytes y)); memory = written (bytes y) out }
+Claim (form-refused x n p) = (out : List ℕ) → formBytes ≤ length out → formCall (bytes x) out ≡ record { answer = refusal n 0 p; memory = out }
+Claim (no-cuts x) = (c : ℕ) (out : List ℕ) → forestBytes ≤ length out → cutCall (bytes x) c out ≡ record { answer = refusal 9 0 0; memory = out }
+Claim (has-cut x c y) = (out : List ℕ) → forestBytes ≤ length out → cutCall (bytes x) c out ≡ record { answer = accepted (length (bytes y)); memory = written (bytes y) out }
+Claim (table-refused x n p) =
+    (memory : TableMemory) → tableBytes ≤ length (memory .texts) → maxTrees ≤ length (memory .ends) → tableCall (bytes x) memory ≡ record { answer = refusal n 0 p; memory = memory }
+Claim (yes-apart x y) = PairCall (bytes x) (bytes y) (accepted true)
+Claim (no-apart x y) = PairCall (bytes x) (bytes y) (accepted false)
+Claim (shares x y n) = (t : Tree) × (u : Tree) × (pairRead (bytes x) (bytes y) ≡ accepted (t, u)) × (shared t u ≡ n)
+Claim (lists x ps) = (memory : GraphMemory) → pairNumbers ≤ length (memory .pairs) → maxTrees ≤ length (memory .counts) → (ts : List Tree) × GraphCall (bytes x) memory (graphOf ts ps memory)
 
 -- all of them hold
 abbrev pub AllHold : List Sample → Type 0
 AllHold [] = Unit {0}
-AllHold (s ∷ ss) = Holds s × AllHold ss
+AllHold (s ∷ ss) = Claim s × AllHold ss
 
+-- the list
 abbrev pub samples : List Sample
 samples =
     has-form "(3,(2,1));" "((1,2),3);"

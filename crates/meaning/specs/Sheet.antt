@@ -15,31 +15,43 @@ use Rattle.meaning.specs.Calls.{tableRead}
 abbrev pub line : List ℕ → List ℕ
 line x = x ++ bytes "\n"
 
--- first line: number of trees, number of pairs
-unfoldable pub firstLine : ℕ → ℕ → List ℕ
-firstLine k m = line (bytes "trees " ++ digits k ++ bytes " pairs " ++ digits m)
+-- a line of two numbers, each with a text before it
+unfoldable pub twoFields : List ℕ → ℕ → List ℕ → ℕ → List ℕ
+twoFields a n b m = line (a ++ digits n ++ b ++ digits m)
 
--- for each of k trees its position, neighbours, unlinked number, canonical text
-unfoldable pub treeLine : ℕ → List Pair → ℕ → Tree → List ℕ
-treeLine k ps i t = line (bytes "tree " ++ digits i ++ bytes " neighbours " ++ digits (neighbours ps i) ++ bytes " unlinked " ++ digits (unlinked k (neighbours ps i)) ++ bytes " " ++ form t)
+-- first line: number of trees, number of pairs
+abbrev pub firstLine : ℕ → ℕ → List ℕ
+firstLine k m = twoFields (bytes "trees ") k (bytes " pairs ") m
+
+-- for a tree its position, neighbours, unlinked number, canonical text
+unfoldable pub treeLine : ℕ → ℕ → ℕ → Tree → List ℕ
+treeLine i n u t = line (bytes "tree " ++ digits i ++ bytes " neighbours " ++ digits n ++ bytes " unlinked " ++ digits u ++ bytes " " ++ form t)
+
+-- the line of the tree at position i among k, with the listed pairs ps
+abbrev pub treeLineOf : ℕ → List Pair → ℕ → Tree → List ℕ
+treeLineOf k ps i t = treeLine i (neighbours ps i) (unlinked k (neighbours ps i)) t
 
 -- the lines of the trees ts, which stand from position i on
 unfoldable pub treeLines : ℕ → List Pair → ℕ → List Tree → List ℕ
 treeLines k ps i [] = []
-treeLines k ps i (t ∷ ts) = treeLine k ps i t ++ treeLines k ps (suc i) ts
+treeLines k ps i (t ∷ ts) = treeLineOf k ps i t ++ treeLines k ps (suc i) ts
+
+-- the line of the pair of i and j
+abbrev pub pairLine : ℕ → ℕ → List ℕ
+pairLine i j = twoFields (bytes "pair ") i (bytes " ") j
 
 -- a line for each pair
 unfoldable pub pairLines : List Pair → List ℕ
 pairLines [] = []
-pairLines (p ∷ ps) = line (bytes "pair " ++ digits (p .0) ++ bytes " " ++ digits (p .1)) ++ pairLines ps
+pairLines (p ∷ ps) = pairLine (p .0) (p .1) ++ pairLines ps
 
 -- the sheet of the trees ts with the listed pairs ps
 unfoldable pub sheet : List Tree → List Pair → List ℕ
 sheet ts ps = firstLine (length ts) (length ps) ++ treeLines (length ts) ps 0 ts ++ pairLines ps
 
 -- a refusal prints only its number and place
-unfoldable pub refusalLine : ℕ → ℕ → List ℕ
-refusalLine n p = line (bytes "refused " ++ digits n ++ bytes " at " ++ digits p)
+abbrev pub refusalLine : ℕ → ℕ → List ℕ
+refusalLine n p = twoFields (bytes "refused ") n (bytes " at ") p
 
 -- what the pair lister prints for the text s
 pub data Sheet (s : List ℕ) : List ℕ → Type 0 where

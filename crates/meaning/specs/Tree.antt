@@ -4,6 +4,7 @@ use mathlib.Core.Bool.{cond}
 use mathlib.Core.List.{List, [], _∷_, _++_}
 use Prim.Native.Nat.{ℕ, zero, suc, _+_, _/_, _%_, _≤_, _<_, min}
 use lib.Dec.{leb}
+use Rattle.meaning.specs.Limits.{maxLabel}
 
 infix 50 _⊆_
 -- a rooted binary tree with a number at each leaf
@@ -34,12 +35,17 @@ Distinct (fork a b) = Distinct a × Distinct b × ((l : ℕ) → In l a → In l
 
 -- every label is 1 to 64
 abbrev pub Small : Tree → Type 0
-Small t = (l : ℕ) → In l t → (1 ≤ l) × (l ≤ 64)
+Small t = (l : ℕ) → In l t → (1 ≤ l) × (l ≤ maxLabel)
 
 -- a tree that a text can hold
 pub record Good (t : Tree) : Type 0 where
   pub distinct : Distinct t
   pub small : Small t
+
+-- trees that a text can hold
+abbrev pub AllGood : List Tree → Type 0
+AllGood [] = Unit {0}
+AllGood (t ∷ ts) = Good t × AllGood ts
 
 -- s is the subtree at a node of t
 pub data Node (s : Tree) : Tree → Type 0 where

@@ -1,28 +1,22 @@
 -- No call gives a refusal of number 0, so result 0 is left for what is accepted.
 -- Assumes nothing.
-use mathlib.Core.Path.{_≡_, refl, sym, subst}
-use mathlib.Core.Bool.{Bool, true, _&&_}
-use mathlib.Core.List.{List, [], _∷_, List·Memᴰ, List·Memᴰ·head, List·Memᴰ·tail}
+use mathlib.Core.Path.{_≡_, sym, subst}
+use mathlib.Core.Bool.{Bool}
+use mathlib.Core.List.{List, List·Memᴰ}
 use Prim.Native.Nat.{ℕ, _≤_}
-use native.Mathlib.Omega.{arith}
-use borrow.Author.Tests.{leb-true}
-use lib.Dec.{leb}
+use lib.Dec.{T, leb, leb→le}
+use Rattle.meaning.specs.Lists.{every}
 use Rattle.meaning.specs.Tree.{form}
 use Rattle.meaning.specs.Move.{cutAt, forest}
 use Rattle.meaning.specs.Answer.{Answer, Outcome, TableMemory, GraphSize, GraphMemory, textOf, conclude}
 use Rattle.meaning.specs.Calls.{formCall, cutCall, PairCall, is-apart, not-apart, tableOf, tableCall, GraphCall, GraphBy, lists}
 use Rattle.meaning.proofs.Calls.{Tells, accepts, denies, tells-refusal, form-tells, cut-tells, pair-tells, table-call-tells, graph-tells}
-use Rattle.meaning.proofs.Scan.{and-left, and-right}
+use Rattle.meaning.proofs.Lists.{every-mem}
 use Rattle.norbelath.specs.Coded.{Numbered}
 
 -- 0 is none of the lines
-abbrev fromOne : List ℕ → Bool
-fromOne [] = true
-fromOne (x ∷ xs) = leb 1 x && fromOne xs
-
-line-number : {n : ℕ} (lines : List ℕ) → fromOne lines ≡ true → List·Memᴰ n lines → 1 ≤ n
-line-number (x ∷ xs) e (List·Memᴰ·head f) = let h : 1 ≤ x = leb-true 1 x (and-left (leb 1 x) (fromOne xs) e) in omega arith
-line-number (x ∷ xs) e (List·Memᴰ·tail m) = line-number xs (and-right (leb 1 x) (fromOne xs) e) m
+from-one : {n : ℕ} {lines : List ℕ} → T (every (leb 1) lines) → List·Memᴰ n lines → 1 ≤ n
+from-one {n} t m = leb→le 1 n (every-mem (leb 1) t m)
 
 -- what is accepted is answered by a value, and a refusal stands
 module _ {A B M : Type 0} {P : A → Type 0} {Q : ℕ → ℕ → ℕ → Type 0} where
@@ -31,22 +25,22 @@ module _ {A B M : Type 0} {P : A → Type 0} {Q : ℕ → ℕ → ℕ → Type 0
   concluded memory done (denies h) line value = line _ _ _ h
 
 pub form-numbered : (s out : List ℕ) → Numbered (formCall s out .answer)
-form-numbered s out = concluded out (λ t. textOf (form t) out) (form-tells s out) (λ n i p l. line-number (1 ∷ 2 ∷ 3 ∷ 4 ∷ 7 ∷ 8 ∷ []) refl (l .number)) (λ t. tt)
+form-numbered s out = concluded out (λ t. textOf (form t) out) (form-tells s out) (λ n i p l. from-one tt (l .number)) (λ t. tt)
 
 pub cut-numbered : (s : List ℕ) (c : ℕ) (out : List ℕ) → Numbered (cutCall s c out .answer)
-cut-numbered s c out = concluded out (λ t. textOf (forest (cutAt t c)) out) (cut-tells s c out) (λ n i p l. line-number (1 ∷ 2 ∷ 3 ∷ 4 ∷ 7 ∷ 8 ∷ 9 ∷ []) refl (l .number)) (λ t. tt)
+cut-numbered s c out = concluded out (λ t. textOf (forest (cutAt t c)) out) (cut-tells s c out) (λ n i p l. from-one tt (l .number)) (λ t. tt)
 
 pub table-numbered : (s : List ℕ) (memory : TableMemory) → Numbered (tableCall s memory .answer)
-table-numbered s memory = concluded memory (λ ts. tableOf ts memory) (table-call-tells s memory) (λ n i p l. line-number (1 ∷ 2 ∷ 3 ∷ 4 ∷ 5 ∷ 6 ∷ 8 ∷ 7 ∷ []) refl (l .number)) (λ ts. tt)
+table-numbered s memory = concluded memory (λ ts. tableOf ts memory) (table-call-tells s memory) (λ n i p l. from-one tt (l .number)) (λ ts. tt)
 
 pub pair-numbered : {s s′ : List ℕ} {a : Answer Bool} → PairCall s s′ a → Numbered a
 pair-numbered (is-apart t u e h) = tt
 pair-numbered (not-apart t u e h) = tt
-pair-numbered {s} {s′} (PairCall.refuses n i p e) = line-number (1 ∷ 2 ∷ 3 ∷ 4 ∷ 5 ∷ 8 ∷ []) refl (tells-refusal (pair-tells s s′) e .number)
+pair-numbered {s} {s′} (PairCall.refuses n i p e) = from-one tt (tells-refusal (pair-tells s s′) e .number)
 
 pub graph-numbered : {s : List ℕ} {memory : GraphMemory} {o : Outcome GraphSize GraphMemory} → GraphCall s memory o → Numbered (o .answer)
 graph-numbered (lists ts ps e L) = tt
-graph-numbered {s} {memory} (GraphBy.refuses n i p e) = line-number (1 ∷ 2 ∷ 3 ∷ 4 ∷ 5 ∷ 6 ∷ 8 ∷ 7 ∷ []) refl (tells-refusal (graph-tells s memory) e .number)
+graph-numbered {s} {memory} (GraphBy.refuses n i p e) = from-one tt (tells-refusal (graph-tells s memory) e .number)
 
 -- the answer of an outcome that the definition gives
 pub numbered-as : {A M : Type 0} {o o′ : Outcome A M} → o ≡ o′ → Numbered (o′ .answer) → Numbered (o .answer)

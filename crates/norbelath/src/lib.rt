@@ -137,7 +137,9 @@ pub extern "C" fn norbelath_table(
     first: &mut u64,
     second: &mut u64,
 ) -> u8
-    ensures { λ r. ⌜ tableCoded r (now (first .exit)) (now (second .exit)) (now (texts .exit)) (now (ends .exit)) ≡ tableCall (now (text .entry)) (record { texts = now (texts .entry); ends = now (ends .entry) }) ⌝ }
+    ensures { λ r. ⌜
+        tableCoded r (now (first .exit)) (now (second .exit)) (now (texts .exit)) (now (ends .exit))
+        ≡ tableCall (now (text .entry)) (record { texts = now (texts .entry); ends = now (ends .entry) }) ⌝ }
 {
     hand_back(
         table_reply(calls::table_call(text, texts, ends)),
@@ -155,7 +157,9 @@ pub extern "C" fn norbelath_graph(
     first: &mut u64,
     second: &mut u64,
 ) -> u8
-    ensures { λ r. ⌜ GraphCall (now (text .entry)) (record { pairs = now (pairs .entry); counts = now (counts .entry) }) (graphCoded r (now (first .exit)) (now (second .exit)) (now (pairs .exit)) (now (counts .exit))) ⌝ }
+    ensures { λ r. ⌜
+        GraphCall (now (text .entry)) (record { pairs = now (pairs .entry); counts = now (counts .entry) })
+        (graphCoded r (now (first .exit)) (now (second .exit)) (now (pairs .exit)) (now (counts .exit))) ⌝ }
 {
     hand_back(
         graph_reply(calls::graph_call(text, pairs, counts)),

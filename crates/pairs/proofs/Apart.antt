@@ -2,26 +2,22 @@
 -- Assumes nothing.
 use mathlib.Core.Path.{_≡_, sym, ap, _∙_}
 use mathlib.Core.Bool.{Bool}
-use mathlib.Core.List.{List}
 use Prim.Native.Nat.{ℕ, _<_}
 use lib.ListN.{length}
 use Rattle.meaning.specs.Tree.{Tree, Good, Distinct, canon}
 use Rattle.meaning.specs.Move.{OneMove, Apart, Cut, cuts}
 use Rattle.meaning.proofs.Canon.{canon-canonical, canonical-canon, topology-iff-canon}
 use Rattle.meaning.proofs.Forests.{move-canon, canon-move}
-use Rattle.meaning.proofs.Moves.{At, number, prune-cut}
-use Rattle.held.specs.Held.{Held, cutIn}
-use Rattle.held.proofs.Canon.{canon-holds}
+use Rattle.meaning.proofs.Lists.{number}
+use Rattle.meaning.proofs.Moves.{IsCut, prune-cut}
+use Rattle.lent.specs.Runs.{Says}
+use Rattle.lent.proofs.Says.{says}
+use Rattle.held.specs.Held.{cutIn}
 use Rattle.held.proofs.Cut.{cut-is, canonical-pruned}
-use Rattle.pairs.specs.Pair.{Says, Canonically, SharesForest}
-use Rattle.pairs.proofs.Answers.{says}
-
--- the array of a topology's canonical form holds that
-pub canon-held : {xs : List ℕ} → Canonically xs → Held xs 0
-canon-held p = record { tree = canon (p .tree); holds = canon-holds (p .good) (p .held) }
+use Rattle.pairs.specs.Pair.{SharesForest}
 
 -- a cut's number
-numbered-cut : (t : Tree) {k : Cut} → At t k → (c : ℕ) × (c < length (cuts t)) × (cutIn t c ≡ k)
+numbered-cut : (t : Tree) {k : Cut} → IsCut t k → (c : ℕ) × (c < length (cuts t)) × (cutIn t c ≡ k)
 numbered-cut t p = number (record { rest = t; pruned = t }) (prune-cut p)
 
 -- what is pruned of a canonical tree is canonical
@@ -39,30 +35,29 @@ module _ {t u : Tree} (G : Good t) (H : Good u) where
   share-move s =
       canon-move D
       (record {
-        one = cutIn (canon t) (s .cut);
-        two = cutIn (canon u) (s .cut′);
-        cut-one = cut-is (canon t) (s .cut) (s .is-cut);
-        cut-two = cut-is (canon u) (s .cut′) (s .is-cut′);
-        rest = s .same .rest;
-        pruned = ap canon (s .same .pruned);
+        one = cutIn (canon t) (s .one);
+        two = cutIn (canon u) (s .two);
+        is-cut = cut-is (canon t) (s .one) (s .is-cut);
+        is-cut′ = cut-is (canon u) (s .two) (s .is-cut′);
+        agree = (s .agree .rest, ap canon (s .agree .pruned));
       })
 
   move-share : OneMove t u → SharesForest (canon t) (canon u)
   move-share m =
       let k = move-canon D E m in
-      let (c, lt, e) = numbered-cut (canon t) (k .cut-one) in
-      let (d, lt′, e′) = numbered-cut (canon u) (k .cut-two) in
+      let (c, lt, e) = numbered-cut (canon t) (k .is-cut) in
+      let (d, lt′, e′) = numbered-cut (canon u) (k .is-cut′) in
       record {
-        cut = c;
-        cut′ = d;
+        one = c;
+        two = d;
         is-cut = lt;
         is-cut′ = lt′;
-        same =
+        agree =
             record {
               pruned =
-                  sym (pruned-canon t D lt) ∙ ap (λ (x : Cut). canon (x .pruned)) e ∙ k .pruned
+                  sym (pruned-canon t D lt) ∙ ap (λ (x : Cut). canon (x .pruned)) e ∙ k .agree .1
                   ∙ sym (ap (λ (x : Cut). canon (x .pruned)) e′) ∙ pruned-canon u E lt′;
-              rest = ap (λ (x : Cut). canon (x .rest)) e ∙ k .rest ∙ sym (ap (λ (x : Cut). canon (x .rest)) e′);
+              rest = ap (λ (x : Cut). canon (x .rest)) e ∙ k .agree .0 ∙ sym (ap (λ (x : Cut). canon (x .rest)) e′);
             };
       }
 

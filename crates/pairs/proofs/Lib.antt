@@ -1,4 +1,3 @@
-pub mod Answers
 pub mod Runs
 pub mod Search
 pub mod Apart

@@ -12,8 +12,8 @@ use lib.Seq.{getD-drop, ext-getD}
 use Rattle.meaning.specs.Tree.{Tree}
 use Rattle.held.specs.Held.{nodes, pre, Holds}
 use Rattle.held.proofs.Laws.{length-pre, twice, some-nodes, leafed, forked, inside, parted}
-use Rattle.pairs.specs.Pair.{Says, SameRun}
-use Rattle.pairs.proofs.Answers.{says}
+use Rattle.lent.specs.Runs.{SameRun, Says}
+use Rattle.lent.proofs.Says.{says}
 
 -- the bytes of a held subtree
 byte-is : {xs : List ℕ} {i : ℕ} {t : Tree} → Holds xs i t → (k : ℕ) → k < nodes t → getD xs (i + k) 0 ≡ getD (pre t) k 0

@@ -13,8 +13,9 @@ use Rattle.held.specs.Held.{nodes, Holds, Held, HasCut, hold, cutIn}
 use Rattle.held.proofs.Laws.{inside, each, holding}
 use Rattle.held.proofs.Canon.{nodes-canon}
 use Rattle.held.proofs.Cut.{cuts-nodes, nodes-rest, small-rest, cut-holds}
-use Rattle.pairs.specs.Pair.{Says, SameForest, SharesForest}
-use Rattle.pairs.proofs.Answers.{said, denied}
+use Rattle.lent.specs.Runs.{Says}
+use Rattle.lent.proofs.Says.{said, denied}
+use Rattle.pairs.specs.Pair.{SameForest, SharesForest}
 
 -- every node but the root has a cut; w is the width of the whole tree, as `width` says
 pub has-cut : {xs : List ℕ} {w c : ℕ} (p : Held xs 0) → w ≡ nodes (p .tree) → c < w - 1 → HasCut xs c
@@ -61,11 +62,11 @@ module _ {xs ys : List ℕ} {c d : ℕ} (k : HasCut xs c) (k′ : HasCut ys d) (
     pub same-forest : r ≡ true → q ≡ true → (t u : Tree) → Holds xs 0 t → Holds ys 0 u → SharesForest t u
     same-forest e e′ t u g h =
         record {
-          cut = c;
-          cut′ = d;
+          one = c;
+          two = d;
           is-cut = each (λ (v : Tree). c < length (cuts v)) (k .holds) (k .is-cut) t g;
           is-cut′ = each (λ (v : Tree). d < length (cuts v)) (k′ .holds) (k′ .is-cut) u h;
-          same =
+          agree =
               record {
                 pruned = said (cutIn t c .pruned ≡ cutIn u d .pruned) e (prunes t u g h);
                 rest = said (canon (cutIn t c .rest) ≡ canon (cutIn u d .rest)) e′ (leaves t u g h);
@@ -76,4 +77,4 @@ module _ {xs ys : List ℕ} {c d : ℕ} (k : HasCut xs c) (k′ : HasCut ys d) (
 pub none : {xs ys : List ℕ} {w v : ℕ} (t u : Tree) → Holds xs 0 t → Holds ys 0 u → w ≡ nodes t → v ≡ nodes u
     → ((i : ℕ) → i < w - 1 → (j : ℕ) → j < v - 1 → Other xs i ys j) → ¬ SharesForest t u
 none t u g h e e′ others s =
-    others (s .cut) (omega (arith, s .is-cut, cuts-nodes t)) (s .cut′) (omega (arith, s .is-cut′, cuts-nodes u)) t u g h (s .same)
+    others (s .one) (omega (arith, s .is-cut, cuts-nodes t)) (s .two) (omega (arith, s .is-cut′, cuts-nodes u)) t u g h (s .agree)

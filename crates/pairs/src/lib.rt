@@ -1,25 +1,12 @@
 // The pair test: whether two trees are one move apart.
 use held::Tree;
 ghost use mathlib.Core.Path.{_≡_};
-ghost use Prim.Native.Nat.{_+_, _≤_};
-ghost use lib.ListN.{length};
-ghost use Rattle.meaning.specs.Tree.{Tree as Topology, Good, canon};
+ghost use Rattle.meaning.specs.Tree.{Tree as Topology, canon};
 ghost use Rattle.meaning.specs.Move.{Apart};
-ghost use Rattle.held.specs.Held.{Holds, Held, HasCut, hold, cutIn};
-ghost use Rattle.pairs.specs.Pair.{Says, Canonically, SameRun, SharesForest};
-
-// Whether `count` bytes of x from i on are those of y from j on.
-fn same_run(x: &[u8], i: usize, y: &[u8], j: usize, count: usize) -> bool
-    requires { ⌜ (i + count ≤ length (now x)) × (j + count ≤ length (now y)) ⌝ }
-    ensures { λ r. ⌜ Says r (SameRun (now (x .entry)) i (now (y .entry)) j count) ⌝ }
-{
-    for k in 0..count {
-        if x[i + k] != y[j + k] {
-            return false;
-        }
-    }
-    true
-}
+ghost use Rattle.lent.specs.Runs.{Says};
+ghost use Rattle.held.specs.Held.{Holds, Held, HasCut, cutIn};
+ghost use Rattle.held.specs.Kept.{Keeps, Kept};
+ghost use Rattle.pairs.specs.Pair.{SharesForest};
 
 // Whether the subtree of x at i is that of y at j. Most that differ do so at their first byte, which also tells the width.
 fn same_subtree(x: &[u8], i: usize, y: &[u8], j: usize) -> bool
@@ -29,13 +16,15 @@ fn same_subtree(x: &[u8], i: usize, y: &[u8], j: usize) -> bool
     if x[i] != y[j] {
         return false;
     }
-    same_run(x, i, y, j, held::width(x, i))
+    lent::same_run(x, i, y, j, held::width(x, i))
 }
 
 // Whether cut c of x and cut d of y take the same subtree away: cut number c is node number c + 1.
 fn same_pruned(x: &[u8], c: usize, y: &[u8], d: usize) -> bool
     requires { ⌜ HasCut (now x) c × HasCut (now y) d ⌝ }
-    ensures { λ r. ⌜ ((t u : Topology) → Holds (now (x .entry)) 0 t → Holds (now (y .entry)) 0 u → Says r (cutIn t c .pruned ≡ cutIn u d .pruned)) ⌝ }
+    ensures { λ r. ⌜
+        ((t u : Topology) → Holds (now (x .entry)) 0 t → Holds (now (y .entry)) 0 u
+        → Says r (cutIn t c .pruned ≡ cutIn u d .pruned)) ⌝ }
 {
     same_subtree(x, c + 1, y, d + 1)
 }
@@ -43,7 +32,9 @@ fn same_pruned(x: &[u8], c: usize, y: &[u8], d: usize) -> bool
 // Whether cut c of a and cut d of b leave the same tree.
 fn same_remainder(a: Tree, c: usize, b: Tree, d: usize) -> bool
     requires { ⌜ HasCut (a .node) c × HasCut (b .node) d ⌝ }
-    ensures { λ r. ⌜ ((t u : Topology) → Holds (a .node) 0 t → Holds (b .node) 0 u → Says r (canon (cutIn t c .rest) ≡ canon (cutIn u d .rest))) ⌝ }
+    ensures { λ r. ⌜
+        ((t u : Topology) → Holds (a .node) 0 t → Holds (b .node) 0 u
+        → Says r (canon (cutIn t c .rest) ≡ canon (cutIn u d .rest))) ⌝ }
 {
     let x = a.remainder(c);
     let y = b.remainder(d);
@@ -73,8 +64,8 @@ fn shares_forest(a: Tree, b: Tree) -> bool
 // Whether the topologies differ and one move of the one gives the other: distinct trees are one move apart exactly when they
 // share a forest (Lemma 2.2 of document 001).
 pub fn one_move_apart(a: Tree, b: Tree) -> bool
-    requires { ⌜ Canonically (a .node) × Canonically (b .node) ⌝ }
-    ensures { λ r. ⌜ ((t u : Topology) → Good t → Good u → a .node ≡ hold (canon t) → b .node ≡ hold (canon u) → Says r (Apart t u)) ⌝ }
+    requires { ⌜ Kept a × Kept b ⌝ }
+    ensures { λ r. ⌜ ((t u : Topology) → Keeps a t → Keeps b u → Says r (Apart t u)) ⌝ }
 {
     if same_subtree(&a.node, 0, &b.node, 0) {
         false

@@ -1,73 +1,28 @@
--- Laws of a draft: the labels that its nodes' bytes have, and what one more node adds.
+-- Laws of a draft: what one more node adds, and a fork that is opened and closed.
 -- Assumes nothing.
-use mathlib.Core.Path.{_≡_, refl, sym, ap, ap₂, _∙_}
+use mathlib.Core.Path.{_≡_, sym, ap, _∙_}
 use mathlib.Core.Logic.{⊎-elim}
-use mathlib.Core.Bool.{Bool, true, false, cond, _||_}
-use mathlib.Core.List.{List, [], _∷_, _++_, append-nil, List·Memᴰ, List·Memᴰ·head, List·Memᴰ·tail, List·Memᴰ·not-nil, List·Memᴰ·append-cases}
+use mathlib.Core.List.{List, [], _∷_, _++_, append-nil, List·Memᴰ·append-cases}
 use Prim.Native.Nat.{ℕ, suc, _+_, _≤_, _<_}
 use native.Mathlib.Numerals.{add-one}
 use native.Mathlib.Omega.{arith}
-use borrow.Author.Tests.{le-leb, lt-leb, leb-true, ne-eqb}
-use lib.Dec.{leb, eqb}
 use lib.ListN.{length, take, drop, set, length-append, length-set}
 use lib.Seq.{sets, sets-eq, length-sets, take-at, take-suc-set, length-take-le, set-set}
-use Rattle.meaning.specs.Tree.{Tree, leaf, fork, tip, Small, Good, labels, leaves}
-use Rattle.meaning.specs.Reading.{member}
-use Rattle.meaning.proofs.Labels.{NoDup, nodup-append, distinct-nodup, labels-in, labels-length}
-use Rattle.meaning.proofs.Length.{few}
-use Rattle.meaning.proofs.Scan.{and-left, and-right, in-member}
+use Rattle.meaning.specs.Lists.{NoDup}
+use Rattle.meaning.specs.Tree.{Tree, fork, Good, labels, leaves}
 use Rattle.meaning.proofs.Complete.{New}
+use Rattle.meaning.proofs.Labels.{distinct-nodup, labels-in, labels-length}
+use Rattle.meaning.proofs.Lists.{nodup-append, in-member}
+use Rattle.meaning.proofs.Logic.{clash}
+use Rattle.meaning.proofs.Sums.{few}
+use Rattle.lent.proofs.Runs.{sets-append, set-sets}
 use Rattle.held.specs.Held.{nodes, pre}
-use Rattle.held.proofs.Laws.{length-pre, twice, some-leaves, small-first, small-second}
-use Rattle.held.proofs.Write.{sets-append, set-sets}
-use Rattle.reading.specs.Draft.{isLabel, labelsIn, seen, Draft}
+use Rattle.held.specs.Labels.{labelsIn}
+use Rattle.held.proofs.Labels.{labelsIn-append, labelsIn-pre, labelsIn-range}
+use Rattle.held.proofs.Laws.{length-pre, twice}
+use Rattle.reading.specs.Draft.{seen, Draft}
 
--- ---- the labels among bytes
-label-yes : (v : ℕ) → 1 ≤ v → v ≤ 64 → isLabel v ≡ true
-label-yes v l h = rw (le-leb 1 v l, le-leb v 64 h)
-
-pub labelsIn-append : (xs ys : List ℕ) → labelsIn (xs ++ ys) ≡ labelsIn xs ++ labelsIn ys
-unfolding labelsIn
-labelsIn-append [] ys = refl
-labelsIn-append (x ∷ xs) ys = by (isLabel x) (labelsIn-append xs ys)
-  where
-    by : (d : Bool) → labelsIn (xs ++ ys) ≡ labelsIn xs ++ labelsIn ys → cond d (x ∷ labelsIn (xs ++ ys)) (labelsIn (xs ++ ys)) ≡ cond d (x ∷ labelsIn xs) (labelsIn xs) ++ labelsIn ys
-    by true e = ap (λ (l : List ℕ). x ∷ l) e
-    by false e = e
-
--- of a tree's nodes they are the tree's labels
-pub labelsIn-pre : (t : Tree) → Small t → labelsIn (pre t) ≡ labels t
-unfolding labelsIn
-labelsIn-pre (leaf l) S = rw (le-leb 1 l (S l tip .0), le-leb l 64 (S l tip .1))
-labelsIn-pre (fork a b) S =
-    let n : ℕ = 64 + (leaves a + leaves b) in
-    rw (le-leb 1 n (omega arith), lt-leb n 64 (omega (arith, some-leaves a)))
-    (labelsIn-append (pre a) (pre b) ∙ ap₂ _++_ (labelsIn-pre a (small-first S)) (labelsIn-pre b (small-second S)))
-
-pub labelsIn-range : (xs : List ℕ) (l : ℕ) → List·Memᴰ l (labelsIn xs) → (1 ≤ l) × (l ≤ 64)
-unfolding labelsIn
-labelsIn-range [] l m = absurd (List·Memᴰ·not-nil m)
-labelsIn-range (x ∷ xs) l m = by (isLabel x) refl (labelsIn-range xs l) m
-  where
-    here : isLabel x ≡ true → (List·Memᴰ l (labelsIn xs) → (1 ≤ l) × (l ≤ 64)) → List·Memᴰ l (x ∷ labelsIn xs) → (1 ≤ l) × (l ≤ 64)
-    here e f (List·Memᴰ·head g) = rw g (leb-true 1 x (and-left (leb 1 x) (leb x 64) e), leb-true x 64 (and-right (leb 1 x) (leb x 64) e))
-    here e f (List·Memᴰ·tail n) = f n
-
-    by : (d : Bool) → isLabel x ≡ d → (List·Memᴰ l (labelsIn xs) → (1 ≤ l) × (l ≤ 64)) → List·Memᴰ l (cond d (x ∷ labelsIn xs) (labelsIn xs)) → (1 ≤ l) × (l ≤ 64)
-    by true e f n = here e f n
-    by false e f n = f n
-
--- a label is among the bytes exactly when it is among their labels
-pub member-labels : (v : ℕ) (xs : List ℕ) → 1 ≤ v → v ≤ 64 → member v xs ≡ member v (labelsIn xs)
-unfolding labelsIn member
-member-labels v [] l h = refl
-member-labels v (x ∷ xs) l h = by (isLabel x) refl (member-labels v xs l h)
-  where
-    by : (d : Bool) → isLabel x ≡ d → member v xs ≡ member v (labelsIn xs) → (eqb x v || member v xs) ≡ member v (cond d (x ∷ labelsIn xs) (labelsIn xs))
-    by true e f = ap (λ (b : Bool). eqb x v || b) f
-    by false e f = rw (ne-eqb x v (λ q. let z = label-yes v l h in let w : isLabel v ≡ false = rw (← q) e in let y : _≡_ {A = ℕ} 0 1 = cc in omega arith)) f
-
--- ---- one node more
+-- one node more
 pub less-room : {node : List ℕ} {at room room′ : ℕ} → Draft node at room → room′ ≤ room → Draft node at room′
 less-room d h = record { size = d .size; once = d .once; fits = omega (arith, d .fits) }
 
@@ -77,7 +32,7 @@ draft-in {node} {at} d = omega (arith, d .size, d .fits, few 64 (seen node at) (
 -- none of a node's labels was seen: then none occurs twice, and there are at most 64
 module _ {node : List ℕ} {at room : ℕ} (d : Draft node at room) {t : Tree} (good : Good t) (new : New t (seen node at)) where
   pub once-more : NoDup (seen node at ++ labels t)
-  once-more = nodup-append (seen node at) (labels t) (d .once) (distinct-nodup t (good .distinct)) (λ l m n. let e = new l (labels-in t n) in let f = in-member m in let z : _≡_ {A = ℕ} 0 1 = cc in omega arith)
+  once-more = nodup-append (seen node at) (labels t) (d .once) (distinct-nodup t (good .distinct)) (λ l m n. let e = new l (labels-in t n) in let f = in-member m in clash cc)
 
   pub few-more : length (seen node at) + leaves t ≤ 64
   few-more =

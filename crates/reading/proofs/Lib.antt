@@ -1,4 +1,6 @@
 pub mod Draft
 pub mod Fork
 pub mod Meet
+pub mod Steps
+pub mod Turns
 pub mod Whole

@@ -2,28 +2,30 @@
 -- Assumes nothing.
 use mathlib.Core.Path.{_≡_, refl, sym, ap, _∙_}
 use mathlib.Core.Bool.{cond}
-use mathlib.Core.List.{List, _++_}
+use mathlib.Core.List.{List}
 use Prim.Native.Nat.{ℕ, _≤_, _<_}
 use native.Mathlib.Nat.{zero-add}
 use native.Mathlib.Omega.{arith}
 use borrow.Author.Tests.{lt-ltb, le-ltb}
 use lib.Dec.{ltb}
 use lib.ListN.{length, drop, replicate, length-replicate}
-use lib.Seq.{sets-eq}
 use Rattle.meaning.specs.Tree.{Tree, Good, canon}
 use Rattle.meaning.specs.Reading.{Read, got, refused, skip, token, readNode, treeAt, readTree}
 use Rattle.meaning.proofs.Length.{leaves-64}
 use Rattle.meaning.proofs.Sound.{sound}
 use Rattle.meaning.proofs.Ways.{gives-got}
+use Rattle.lent.proofs.Runs.{sets-start}
 use Rattle.held.specs.Held.{nodes, pre, Holds, Room, hold}
+use Rattle.held.specs.Labels.{labelsIn}
 use Rattle.held.proofs.Laws.{length-pre, twice}
-use Rattle.reading.specs.Draft.{labelsIn, seen, Draft, refusedAt, tokenStep, Meets}
-use Rattle.reading.specs.Whole.{TreeMeets, goes-on, refuses}
+use Rattle.reading.specs.Draft.{seen, Draft, refusedAt, tokenStep, Meets}
+use Rattle.reading.specs.Whole.{TreeMeets}
 use Rattle.reading.specs.declared.Step.{Step}
 use Rattle.reading.specs.declared.Refusal.{Refusal}
 use Rattle.reading.specs.declared.TreeRead.{TreeRead}
 use Rattle.reading.specs.declared.Step.the-variants.{Next, Refused}
 use Rattle.reading.proofs.Meet.{Accepted, met-next, met-refused, token-next, token-refused, then-got, then-refused}
+use Rattle.reading.proofs.Steps.{step-got, step-refused, step-next, step-denied}
 
 -- a draft of which nothing is read yet
 abbrev pub blank-draft : List ℕ
@@ -33,14 +35,6 @@ pub draft-blank : Draft blank-draft 0 63
 unfolding labelsIn
 draft-blank = record { size = length-replicate {A = ℕ} 191 0; once = tt; fits = omega arith }
 
--- an answer that meets, from what it is
-module _ {r : TreeRead} {g : Read Tree} where
-  pub tree-got : {t : Tree} {p : ℕ} → g ≡ got t p → r .step ≡ Next p (nodes t) → r .tree .node ≡ hold (canon t) → TreeMeets r g
-  tree-got {t} {p} e h k = rw e (goes-on t p h k)
-
-  pub tree-refused : {n p : ℕ} → g ≡ refused n p → r .step ≡ refusedAt n p → TreeMeets r g
-  tree-refused {n} {p} e h = rw e (refuses n p h)
-
 -- ---- a node and `;`
 module _ (s : List ℕ) (p : ℕ) {node : List ℕ} {r : Step} (m : Meets blank-draft node 0 (readNode 63 s p (seen blank-draft 0)) r) where
   abbrev ends : Tree → ℕ → Read Tree
@@ -48,7 +42,7 @@ module _ (s : List ℕ) (p : ℕ) {node : List ℕ} {r : Step} (m : Meets blank-
 
   pub at-refused : {x : Refusal} {tree : TreeRead} → r ≡ Refused x → tree .step ≡ r → TreeMeets tree (treeAt s p)
   unfolding treeAt labelsIn
-  at-refused e h = let D = met-refused m e in tree-refused (then-refused ends (D .is)) (h ∙ D .step)
+  at-refused e h = let D = met-refused m e in step-refused (then-refused ends (D .is)) (h ∙ D .step)
 
   module _ {q k : ℕ} (e : r ≡ Next q k) where
     read : Accepted blank-draft node 0 (readNode 63 s p (seen blank-draft 0)) q k
@@ -64,7 +58,7 @@ module _ (s : List ℕ) (p : ℕ) {node : List ℕ} {r : Step} (m : Meets blank-
     read-stands : Holds node 0 (read .tree)
     read-stands = record {
       small = good .small;
-      stands = (drop (length (pre (read .tree))) blank-draft, read .wrote ∙ sets-eq (pre (read .tree)) blank-draft 0 (omega (arith, length-pre (read .tree), small-enough, length-replicate {A = ℕ} 191 0)) ∙ ap (λ (j : ℕ). pre (read .tree) ++ drop j blank-draft) (zero-add (length (pre (read .tree)))));
+      stands = (drop (length (pre (read .tree))) blank-draft, read .wrote ∙ sets-start blank-draft (pre (read .tree)) (omega (arith, length-pre (read .tree), small-enough, length-replicate {A = ℕ} 191 0)));
     }
 
     pub read-holds : Room nodes node 0 127
@@ -77,39 +71,25 @@ module _ (s : List ℕ) (p : ℕ) {node : List ℕ} {r : Step} (m : Meets blank-
         by : (v : Step) → tokenStep 59 s q k ≡ v → w .step ≡ v → TreeMeets w (treeAt s p)
         by (Next q′ k′) z h =
             let t = token-next 59 s q k (λ q″. got (read .tree) q″) q′ k′ z in
-            tree-got (then-got ends (read .is) ∙ t .0) (h ∙ ap (Next q′) (t .1 ∙ read .next ∙ zero-add (nodes (read .tree)))) (f (read .tree) read-stands)
+            step-got (then-got ends (read .is) ∙ t .0) (h ∙ ap (Next q′) (t .1 ∙ read .next ∙ zero-add (nodes (read .tree)))) (record { good = good; bytes = f (read .tree) read-stands })
         by (Refused x) z h =
             let t = token-refused 59 s q k (λ q″. got (read .tree) q″) x z in
-            tree-refused (then-got ends (read .is) ∙ t .0) (h ∙ sym z ∙ t .1)
+            step-refused (then-got ends (read .is) ∙ t .0) (h ∙ sym z ∙ t .1)
 
 -- ---- a text with exactly one tree
-pub record OneRead (r : TreeRead) (g : Read Tree) (p k : ℕ) : Type 0 where
-  pub tree : Tree
-  pub is : g ≡ got tree p
-  pub size : k ≡ nodes tree
-  pub held : r .tree .node ≡ hold (canon tree)
-
-pub tree-next : {r : TreeRead} {g : Read Tree} {p k : ℕ} → TreeMeets r g → r .step ≡ Next p k → OneRead r g p k
-tree-next {r} {p} {k} (goes-on t q h w) e = let x : q ≡ p = cc in let y : nodes t ≡ k = cc in record { tree = t; is = ap (got t) x; size = sym y; held = w }
-tree-next (refuses n q h) e = let z : _≡_ {A = ℕ} 0 1 = cc in absurd (omega arith)
-
-pub tree-denied : {r : TreeRead} {g : Read Tree} {x : Refusal} → TreeMeets r g → r .step ≡ Refused x → (n : ℕ) × (p : ℕ) × (g ≡ refused n p) × (r .step ≡ refusedAt n p)
-tree-denied (goes-on t q h w) e = let z : _≡_ {A = ℕ} 0 1 = cc in absurd (omega arith)
-tree-denied (refuses n q h) e = (n, q, refl, h)
-
 module _ (s : List ℕ) {r : TreeRead} (m : TreeMeets r (treeAt s 0)) where
   abbrev alone : Tree → ℕ → Read Tree
   alone t q = cond (ltb (skip s q) (length s)) (refused 1 (skip s q)) (got t q)
 
   pub one-refused : {x : Refusal} → r .step ≡ Refused x → TreeMeets r (readTree s)
   unfolding readTree
-  one-refused e = let D = tree-denied m e in tree-refused (then-refused alone (D .2)) (D .3)
+  one-refused e = let D = step-denied m e in step-refused (then-refused alone (D .is)) (D .told)
 
   module _ {p k : ℕ} (e : r .step ≡ Next p k) {end : ℕ} (f : end ≡ skip s p) where
     pub one-more : {w : TreeRead} → end < length s → w .step ≡ refusedAt 1 end → TreeMeets w (readTree s)
     unfolding readTree
-    one-more l h = tree-refused (then-got alone (tree-next m e .is) ∙ rw (lt-ltb (skip s p) (length s) (omega arith))) (h ∙ ap (refusedAt 1) f)
+    one-more l h = step-refused (then-got alone (step-next m e .is) ∙ rw (lt-ltb (skip s p) (length s) (omega arith))) (h ∙ ap (refusedAt 1) f)
 
     pub one-done : length s ≤ end → TreeMeets r (readTree s)
     unfolding readTree
-    one-done l = let D = tree-next m e in let h : alone (D .tree) p ≡ got (D .tree) p = rw (le-ltb (skip s p) (length s) (omega arith)) in tree-got (then-got alone (D .is) ∙ h) (e ∙ ap (Next p) (D .size)) (D .held)
+    one-done l = let D = step-next m e in let h : alone (D .value) p ≡ got (D .value) p = rw (le-ltb (skip s p) (length s) (omega arith)) in step-got (then-got alone (D .is) ∙ h) (e ∙ ap (Next p) (D .count)) (D .keeps)

@@ -1,38 +1,39 @@
 -- A tree while it is read: its nodes in preorder in lent bytes; and what a reader's answer has to do with `Read`.
 -- Assumes nothing.
 use mathlib.Core.Path.{_≡_}
-use mathlib.Core.Bool.{Bool, cond, _&&_}
-use mathlib.Core.List.{List, [], _∷_}
+use mathlib.Core.Bool.{cond}
+use mathlib.Core.List.{List}
 use Prim.Native.Nat.{ℕ, _+_, _*_, _≤_}
-use lib.Dec.{eqb, leb}
+use lib.Dec.{eqb}
 use lib.Seq.{sets}
 use lib.ListN.{length, take, getD}
+use Rattle.meaning.specs.Limits.{maxLabel, maxOpen}
+use Rattle.meaning.specs.Lists.{NoDup}
 use Rattle.meaning.specs.Tree.{Tree}
 use Rattle.meaning.specs.Reading.{Read, got, refused, skip}
-use Rattle.meaning.proofs.Labels.{NoDup}
 use Rattle.held.specs.Held.{nodes, pre}
+use Rattle.held.specs.Labels.{labelsIn}
 use Rattle.reading.specs.declared.Step.{Step}
 use Rattle.reading.specs.declared.Step.the-variants.{Next, Refused}
-
--- a node's byte is a label: a fork's is 0 while it is open, and above 64 once it is closed
-abbrev pub isLabel : ℕ → Bool
-isLabel b = leb 1 b && leb b 64
-
--- the labels among the bytes of nodes
-unfoldable pub labelsIn : List ℕ → List ℕ
-labelsIn [] = []
-labelsIn (b ∷ bs) = cond (isLabel b) (b ∷ labelsIn bs) (labelsIn bs)
 
 -- the labels read so far, where the next node stands at `at`
 abbrev pub seen : List ℕ → ℕ → List ℕ
 seen node at = labelsIn (take at node)
 
--- a draft of 191 bytes that a node can be read into at `at`, while `room` more brackets may open: none of its labels occurs
+-- one above the largest label: no larger value has to be told apart
+abbrev pub tooLarge : ℕ
+tooLarge = maxLabel + 1
+
+-- nodes of a text that may yet be refused
+abbrev pub draftBytes : ℕ
+draftBytes = maxOpen + 2 * maxLabel
+
+-- a draft that a node can be read into at `at`, while `room` more brackets may open: none of its labels occurs
 -- twice, and each of its nodes is a label, a closed fork, fewer than the labels, or an open fork
 pub record Draft (node : List ℕ) (at room : ℕ) : Type 0 where
-  pub size : length node ≡ 191
+  pub size : length node ≡ draftBytes
   pub once : NoDup (seen node at)
-  pub fits : at + room ≤ 63 + 2 * length (seen node at)
+  pub fits : at + room ≤ maxOpen + 2 * length (seen node at)
 
 -- the step that refuses, of text 0
 abbrev pub refusedAt : ℕ → ℕ → Step

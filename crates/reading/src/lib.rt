@@ -1,10 +1,17 @@
-// Reads tree text: blanks, labels, nodes and forks.
+// Reads tree text: blanks, labels, nodes and forks; the module `tables` reads many trees.
 use held::Tree;
+
+pub mod tables;
+
+pub use tables::TableRead;
+pub use tables::read_table;
+pub use tables::unlike;
 ghost use mathlib.Core.Path.{_≡_};
-ghost use Prim.Native.Nat.{min, suc, _+_, _-_, _/_, _≤_, _<_};
-ghost use lib.ListN.{length, take, getD};
-ghost use Rattle.meaning.specs.Reading.{isBlank, isDigit, skip, runEnd, value, member, forkAt, labelAt, readNode, treeAt, readTree};
-ghost use Rattle.reading.specs.Draft.{seen, Draft, Meets, refusedAt, tokenStep};
+ghost use Prim.Native.Nat.{ℕ, min, suc, _+_, _-_, _/_, _≤_, _<_};
+ghost use lib.ListN.{getD};
+ghost use Rattle.meaning.specs.Limits.{maxLabel};
+ghost use Rattle.meaning.specs.Reading.{isBlank, isDigit, skip, runEnd, value, badLabel, forkAt, labelAt, readNode, treeAt, readTree};
+ghost use Rattle.reading.specs.Draft.{tooLarge, draftBytes, seen, Draft, Meets, refusedAt, tokenStep};
 ghost use Rattle.reading.specs.Whole.{TreeMeets};
 
 // A line of the refusal list: its number, which text (0, or 1 for the second of a pair) and the place.
@@ -54,13 +61,7 @@ struct Run {
 
 impl Run {
     // One above the largest label: no larger value has to be told apart.
-    const TOO_LARGE: usize = 65;
-}
-
-pub fn wide(x: u8) -> usize
-    ensures { λ r. ⌜ r ≡ x ⌝ }
-{
-    x as usize
+    const TOO_LARGE: usize = Tree::MAX_LABEL as usize + 1;
 }
 
 // The byte at a place; 0 behind the end.
@@ -109,7 +110,7 @@ pub fn skip_blanks(s: &[u8], from: usize) -> usize
 
 // The run of digits at a place. A value above 64 is held down, so that no run is too long.
 fn digit_run(s: &[u8], from: usize) -> Run
-    ensures { λ r. ⌜ (r .end ≡ runEnd (now (s .entry)) from) × (r .value ≡ min 65 (value (now (s .entry)) from)) ⌝ }
+    ensures { λ r. ⌜ (r .end ≡ runEnd (now (s .entry)) from) × (r .value ≡ min tooLarge (value (now (s .entry)) from)) ⌝ }
 {
     let mut i = from;
     let mut v: usize = 0;
@@ -118,7 +119,7 @@ fn digit_run(s: &[u8], from: usize) -> Run
         if !is_digit(b) {
             return Run { end: i, value: v };
         }
-        v = v * 10 + wide(b - b'0');
+        v = v * 10 + lent::wide(b - b'0');
         if Run::TOO_LARGE < v {
             v = Run::TOO_LARGE;
         }
@@ -127,7 +128,8 @@ fn digit_run(s: &[u8], from: usize) -> Run
     Run { end: i, value: v }
 }
 
-fn refused(number: u8, place: usize) -> Step
+// The step that refuses, of text 0.
+fn refuse(number: u8, place: usize) -> Step
     ensures { λ r. ⌜ r ≡ refusedAt number place ⌝ }
 {
     Step::Refused(Refusal {
@@ -137,19 +139,17 @@ fn refused(number: u8, place: usize) -> Step
     })
 }
 
-// Whether v is among the first n nodes.
-pub fn has_label(node: &[u8], n: usize, v: usize) -> bool
-    requires { ⌜ n ≤ length (now node) ⌝ }
-    ensures { λ r. ⌜ r ≡ member v (take n (now (node .entry))) ⌝ }
+// Whether a label breaks the rule, by its first byte and its value, which may be held down as in `Run`.
+fn bad_label(b: u8, v: usize) -> bool
+    ensures { λ r. ⌜ ((w : ℕ) → v ≡ min tooLarge w → r ≡ badLabel b w) ⌝ }
 {
-    let mut i = 0;
-    while i < n {
-        if wide(node[i]) == v {
-            return true;
-        }
-        i += 1;
+    if b == b'0' {
+        return true;
     }
-    false
+    if v < 1 {
+        return true;
+    }
+    lent::wide(Tree::MAX_LABEL) < v
 }
 
 // The label whose first digit is at q, as the node `at`.
@@ -157,19 +157,13 @@ fn read_label(s: &[u8], q: usize, node: &mut [u8], at: usize) -> Step
     requires { ⌜ Draft (now node) at 0 ⌝ }
     ensures { λ r. ⌜ Meets (now (node .entry)) (now (node .exit)) at (labelAt (now (s .entry)) q (seen (now (node .entry)) at)) r ⌝ }
 {
-    if byte_at(s, q) == b'0' {
-        return refused(Refusal::BAD_LABEL, q);
-    }
     let run = digit_run(s, q);
     let v = run.value;
-    if v < 1 {
-        return refused(Refusal::BAD_LABEL, q);
+    if bad_label(byte_at(s, q), v) {
+        return refuse(Refusal::BAD_LABEL, q);
     }
-    if wide(Tree::MAX_LABEL) < v {
-        return refused(Refusal::BAD_LABEL, q);
-    }
-    if has_label(node, at, v) {
-        return refused(Refusal::LABEL_AGAIN, q);
+    if lent::contains(node, at, v) {
+        return refuse(Refusal::LABEL_AGAIN, q);
     }
     node[at] = v as u8;
     Step::Next(run.end, at + 1)
@@ -184,14 +178,14 @@ fn expect_byte(s: &[u8], from: usize, b: u8, at: usize) -> Step
     if byte_at(s, q) == b {
         Step::Next(q + 1, at)
     } else {
-        refused(Refusal::WRONG_BYTE, q)
+        refuse(Refusal::WRONG_BYTE, q)
     }
 }
 
 // The byte of a fork at the node `at` whose nodes end before `end`: 64 and its leaves.
 fn fork_byte(at: usize, end: usize) -> u8
-    requires { ⌜ (at < end) × (end ≤ at + 191) ⌝ }
-    ensures { λ r. ⌜ r ≡ 64 + (end - at + 1) / 2 ⌝ }
+    requires { ⌜ (at < end) × (end ≤ at + draftBytes) ⌝ }
+    ensures { λ r. ⌜ r ≡ maxLabel + (end - at + 1) / 2 ⌝ }
 {
     let leaves = (end - at + 1) / 2;
     Tree::FORK + leaves as u8
@@ -209,17 +203,19 @@ fn read_node(s: &[u8], from: usize, room: usize, node: &mut [u8], at: usize) -> 
     }
     if b == b'(' {
         if room == 0 {
-            return refused(Refusal::TOO_DEEP, q);
+            return refuse(Refusal::TOO_DEEP, q);
         }
         return read_fork(s, q + 1, room - 1, node, at);
     }
-    refused(Refusal::WRONG_BYTE, q)
+    refuse(Refusal::WRONG_BYTE, q)
 }
 
 // The rest of a fork, behind its bracket, as the node `at`. Its byte is 0, which is no label, until its leaves are known.
 fn read_fork(s: &[u8], from: usize, room: usize, node: &mut [u8], at: usize) -> Step
     requires { ⌜ Draft (now node) at (suc room) ⌝ }
-    ensures { λ r. ⌜ Meets (now (node .entry)) (now (node .exit)) at (forkAt (readNode room (now (s .entry))) (now (s .entry)) from (seen (now (node .entry)) at)) r ⌝ }
+    ensures { λ r. ⌜
+        Meets (now (node .entry)) (now (node .exit)) at
+        (forkAt (readNode room (now (s .entry))) (now (s .entry)) from (seen (now (node .entry)) at)) r ⌝ }
 {
     node[at] = 0;
     let first = read_node(s, from, room, node, at + 1);
@@ -268,7 +264,7 @@ pub fn read_tree(s: &[u8]) -> TreeRead
     let end = skip_blanks(s, p);
     if end < s.len() {
         return TreeRead {
-            step: refused(Refusal::WRONG_BYTE, end),
+            step: refuse(Refusal::WRONG_BYTE, end),
             tree: Tree::empty(),
         };
     }

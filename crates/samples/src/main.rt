@@ -3,10 +3,10 @@ use calls::GraphAnswer;
 use calls::PairAnswer;
 use calls::TableAnswer;
 use calls::TextAnswer;
+use held::Table;
 use held::Tree;
 use libc::STDOUT_FILENO;
 use reading::Refusal;
-use tables::Table;
 
 fn print(text: &[u8]) {
     io::write_all(STDOUT_FILENO, text);
@@ -44,7 +44,7 @@ fn print_text(answer: TextAnswer, out: &[u8]) {
 }
 
 fn form(text: &[u8]) {
-    let mut out = [0u8; Tree::MAX_FORM];
+    let mut out = [0u8; Tree::FORM_BYTES];
     print(b"form ");
     print(text);
     print(b" : ");
@@ -53,7 +53,7 @@ fn form(text: &[u8]) {
 }
 
 fn cut(text: &[u8], number: usize) {
-    let mut out = [0u8; Tree::MAX_FOREST];
+    let mut out = [0u8; Tree::FOREST_BYTES];
     print(b"cut ");
     print_number(number);
     print(b" of ");
@@ -79,7 +79,7 @@ fn pair(first: &[u8], second: &[u8]) {
 
 // The last tree's end is the number of bytes.
 fn table(text: &[u8]) {
-    let mut texts = [0u8; Table::MAX_TEXT_BYTES];
+    let mut texts = [0u8; Table::TEXT_BYTES];
     let mut ends = [0u32; Table::MAX_TREES];
     let answer = calls::table_call(text, &mut texts, &mut ends);
     match answer {
@@ -125,7 +125,7 @@ fn print_counts(counts: &[u16], number: usize) {
 }
 
 fn graph(text: &[u8]) {
-    let mut pairs = [0u16; Table::MAX_PAIR_NUMBERS];
+    let mut pairs = [0u16; Table::PAIR_NUMBERS];
     let mut counts = [0u16; Table::MAX_TREES];
     print(b"graph ");
     print(text);
@@ -146,20 +146,20 @@ fn graph(text: &[u8]) {
 
 // A slice one byte shorter than is asked for, with a text that would be refused too.
 fn short_slices() {
-    let mut form_bytes = [0u8; Tree::MAX_FORM - 1];
+    let mut form_bytes = [0u8; Tree::FORM_BYTES - 1];
     print(b"308 bytes for a form : ");
     let answer = calls::form_call(b"", &mut form_bytes);
     print_text(answer, &form_bytes);
-    let mut forest_bytes = [0u8; Tree::MAX_FOREST - 1];
+    let mut forest_bytes = [0u8; Tree::FOREST_BYTES - 1];
     print(b"306 bytes for a forest : ");
     let answer = calls::cut_call(b"", 0, &mut forest_bytes);
     print_text(answer, &forest_bytes);
 }
 
 fn long_texts() {
-    let blanks = [b' '; Tree::MAX_TEXT];
-    let more = [b' '; Tree::MAX_TEXT + 1];
-    let mut out = [0u8; Tree::MAX_FORM];
+    let blanks = [b' '; Tree::TEXT_BYTES];
+    let more = [b' '; Tree::TEXT_BYTES + 1];
+    let mut out = [0u8; Tree::FORM_BYTES];
     print(b"65,535 blanks : ");
     let answer = calls::form_call(&blanks, &mut out);
     print_text(answer, &out);

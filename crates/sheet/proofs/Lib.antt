@@ -1,4 +1,4 @@
-pub mod Lines
+pub mod Determined
 pub mod Prints
 pub mod Rows
 pub mod Sizes

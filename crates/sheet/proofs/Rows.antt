@@ -8,8 +8,8 @@ use native.Mathlib.Omega.{arith}
 use native.Mathlib.Numerals.{add-one}
 use lib.ListN.{length, take, getD, length-append}
 use lib.Seq.{take-length}
-use Rattle.held.specs.Held.{Wrote}
-use Rattle.held.proofs.Write.{wrote-more, wrote-length}
+use Rattle.lent.specs.Runs.{Wrote}
+use Rattle.lent.proofs.Runs.{wrote-more, wrote-length}
 
 module _ {A : Type 0} (line : ℕ → A → List ℕ) where
   -- the line of each member, which depends on its place

@@ -1,23 +1,22 @@
 -- The longest sheet: numbers below 1000 and 100,000 have at most three and five digits, and a canonical text at most 309 bytes.
 -- Assumes nothing.
-use mathlib.Core.Path.{refl, ap}
+use mathlib.Core.Path.{ap}
 use mathlib.Core.List.{List}
 use Prim.Native.Nat.{ℕ, zero, suc, _*_, _/_, _≤_, _<_}
 use native.Mathlib.Omega.{arith}
 use native.Mathlib.Decide.{decLe}
 use lib.ListN.{length, length-append}
+use Rattle.meaning.specs.Limits.{maxTrees, firstLineBytes, treeLineBytes, pairLineBytes, sheetBytes}
 use Rattle.meaning.specs.Bytes.{bytes}
-use Rattle.meaning.specs.Tree.{Tree as Topology, digits}
+use Rattle.meaning.specs.Tree.{Tree as Topology, digits, AllGood}
 use Rattle.meaning.specs.Move.{Apart}
 use Rattle.meaning.specs.Listing.{Pair, Listing, At, neighbours, unlinked}
-use Rattle.meaning.specs.Sheet.{firstLine, treeLine, treeLines, pairLines, sheet, refusalLine}
+use Rattle.meaning.specs.Sheet.{firstLine, treeLineOf, treeLines, pairLine, pairLines, sheet, refusalLine}
+use Rattle.meaning.proofs.Counts.{neighbours-le, listing-few}
 use Rattle.meaning.proofs.Digits.{digits-one}
 use Rattle.meaning.proofs.Length.{form-length}
-use Rattle.meaning.proofs.TableText.{AllGood}
-use Rattle.meaning.proofs.Counts.{neighbours-le, listing-few}
 use Rattle.writing.proofs.Laws.{length-digits}
-use Rattle.sheet.specs.Lines.{twoFields, pairLine}
-use Rattle.sheet.proofs.Lines.{two-length, tree-length}
+use Rattle.writing.proofs.Lines.{two-length, tree-length}
 use Rattle.sheet.proofs.Rows.{rows-length}
 use Rattle.sheet.proofs.Turns.{trees-rows, good-one, pairRow, pairs-rows}
 
@@ -41,34 +40,30 @@ five : (n : ℕ) → n < 100000 → length (digits n) ≤ 5
 five n h = digits-few 4 n h
 
 -- the lines
-first-short : (k m : ℕ) → k ≤ 160 → m ≤ 12720 → length (firstLine k m) ≤ 22
-unfolding firstLine twoFields
+first-short : (k m : ℕ) → k ≤ maxTrees → m ≤ 12720 → length (firstLine k m) ≤ firstLineBytes
 first-short k m h l = omega (arith, two-length (bytes "trees ") k (bytes " pairs ") m, three k (omega arith), five m (omega arith))
 
 pub refusal-short : (n p : ℕ) → n < 1000 → p < 100000 → length (refusalLine n p) ≤ 21
-unfolding refusalLine twoFields
 refusal-short n p h l = omega (arith, two-length (bytes "refused ") n (bytes " at ") p, three n h, five p l)
 
-pair-short : (i j : ℕ) → i < 1000 → j < 1000 → length (pairLine i j) ≤ 13
-unfolding pairLine
+pair-short : (i j : ℕ) → i < 1000 → j < 1000 → length (pairLine i j) ≤ pairLineBytes
 pair-short i j h l = omega (arith, two-length (bytes "pair ") i (bytes " ") j, three i h, three j l)
 
-module _ (ts : List Topology) (ps : List Pair) (G : AllGood ts) (L : Listing (length ts) (At Apart ts) ps) (few : length ts ≤ 160) where
-  trees-short : length (treeLines (length ts) ps 0 ts) ≤ 347 * length ts
+module _ (ts : List Topology) (ps : List Pair) (G : AllGood ts) (L : Listing (length ts) (At Apart ts) ps) (few : length ts ≤ maxTrees) where
+  trees-short : length (treeLines (length ts) ps 0 ts) ≤ treeLineBytes * length ts
   trees-short =
       let k = length ts in
-      rw trees-rows (rows-length (treeLine k ps) 347 0 ts λ i t m h.
+      rw trees-rows (rows-length (treeLineOf k ps) treeLineBytes 0 ts λ i t m h.
       let inside : i < k = omega arith in
       let n = neighbours-le L i inside in
-      omega (arith, tree-length k i ps t refl, three i (omega arith), three (neighbours ps i) (omega arith), three (unlinked k (neighbours ps i)) (omega arith), form-length (good-one ts G m)))
+      omega (arith, tree-length i (neighbours ps i) (unlinked k (neighbours ps i)) t, three i (omega arith), three (neighbours ps i) (omega arith), three (unlinked k (neighbours ps i)) (omega arith), form-length (good-one ts G m)))
 
-  pairs-short : length (pairLines ps) ≤ 13 * length ps
+  pairs-short : length (pairLines ps) ≤ pairLineBytes * length ps
   pairs-short =
-      rw (pairs-rows 0) (rows-length pairRow 13 0 ps λ i p m h.
+      rw (pairs-rows 0) (rows-length pairRow pairLineBytes 0 ps λ i p m h.
       let inside = L .listed (p .0) (p .1) .0 m in
       pair-short (p .0) (p .1) (omega arith) (omega arith))
 
-  -- 220,902 = 22 + 160 * 347 + 12,720 * 13
-  pub sheet-short : length (sheet ts ps) ≤ 220902
+  pub sheet-short : length (sheet ts ps) ≤ sheetBytes
   unfolding sheet
   sheet-short = simp length-append (omega (arith, first-short (length ts) (length ps) few (listing-few L few), trees-short, pairs-short, listing-few L few))

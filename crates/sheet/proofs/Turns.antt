@@ -5,24 +5,22 @@ use mathlib.Core.List.{List, [], _∷_, _++_, List·Memᴰ, List·Memᴰ·head, 
 use Prim.Native.Nat.{ℕ, zero, suc, _+_, _*_, _≤_, _<_}
 use native.Mathlib.Omega.{arith}
 use lib.ListN.{length, take, getD, length-append, List·getD-append}
-use Rattle.meaning.specs.Tree.{Tree as Topology, leaf, Good}
-use Rattle.meaning.specs.Listing.{Pair, counts, flat, treeOf}
-use Rattle.meaning.specs.Sheet.{treeLine, treeLines, pairLines}
-use Rattle.meaning.proofs.TableText.{AllGood}
-use Rattle.meaning.proofs.Moves.{numbered}
+use Rattle.meaning.specs.Tree.{Tree as Topology, leaf, Good, AllGood}
+use Rattle.meaning.specs.Listing.{Pair, counts, flat, treeOf, neighbours, unlinked}
+use Rattle.meaning.specs.Sheet.{treeLine, treeLineOf, treeLines, pairLine, pairLines}
 use Rattle.meaning.proofs.Counts.{counts-length, counts-at, neighbours-le, flat-length}
-use Rattle.held.specs.Held.{Wrote}
-use Rattle.tables.specs.Trees.{heldAt}
-use Rattle.tables.specs.declared.Table.{Table}
-use Rattle.sheet.specs.Lines.{pairLine, twoFields, OnLine, TreeLineFits, TreesListed, TreeLinesFit, PairsListed, PairLinesFit}
+use Rattle.lent.specs.Runs.{Wrote}
+use Rattle.held.specs.Kept.{Keeps, KeptRoom, heldAt}
+use Rattle.held.specs.declared.Table.{Table}
+use Rattle.sheet.specs.Lines.{TreesListed, TreeLinesFit, PairsListed, PairLinesFit}
 use Rattle.sheet.proofs.Rows.{rows, turn-room, turn-wrote, turns-wrote}
 
 -- ---- trees
 -- their lines are rows
-pub trees-rows : (k : ℕ) (ps : List Pair) (i : ℕ) (ts : List Topology) → treeLines k ps i ts ≡ rows (treeLine k ps) i ts
+pub trees-rows : (k : ℕ) (ps : List Pair) (i : ℕ) (ts : List Topology) → treeLines k ps i ts ≡ rows (treeLineOf k ps) i ts
 unfolding treeLines
 trees-rows k ps i [] = refl
-trees-rows k ps i (t ∷ ts) = ap (λ (l : List ℕ). treeLine k ps i t ++ l) (trees-rows k ps (suc i) ts)
+trees-rows k ps i (t ∷ ts) = ap (λ (l : List ℕ). treeLineOf k ps i t ++ l) (trees-rows k ps (suc i) ts)
 
 pub good-one : (ts : List Topology) → AllGood ts → {t : Topology} → List·Memᴰ t ts → Good t
 good-one (t ∷ ts) G (List·Memᴰ·head e) = rw e (G .0)
@@ -35,46 +33,47 @@ module _ {table : Table} {numbers : List ℕ} {ts : List Topology} {ps : List Pa
 
   module _ (i : ℕ) (h : i < table .len) where
     inside : i < length ts
-    inside = omega (arith, L .holds .count)
+    inside = omega (arith, L .keeps .count)
 
-    pub on-line : OnLine i (getD numbers i 0) (heldAt table i) ps (treeOf ts i)
-    on-line = record {
-      good = good-one ts (L .good) (numbered ts (leaf 0) i inside);
-      held = L .holds .each i inside;
-      counted =
-          ap (λ (l : List ℕ). getD l i 0) (L .counted .1) ∙ List·getD-append (counts (length ts) ps) (L .counted .0) 0 i (omega (arith, inside, counts-length (length ts) ps))
-          ∙ counts-at (length ts) ps i inside;
-    }
+    counted : getD numbers i 0 ≡ neighbours ps i
+    counted =
+        ap (λ (l : List ℕ). getD l i 0) (L .counted .1) ∙ List·getD-append (counts (length ts) ps) (L .counted .0) 0 i (omega (arith, inside, counts-length (length ts) ps))
+        ∙ counts-at (length ts) ps i inside
 
-    few-linked : getD numbers i 0 < table .len
-    few-linked = omega (arith, on-line .counted, neighbours-le (L .listing) i inside, L .holds .count)
+    pub few-linked : getD numbers i 0 < table .len
+    few-linked = omega (arith, counted, neighbours-le (L .listing) i inside, L .keeps .count)
+
+-- the line of the tree at i, whose number of neighbours stands at i of the numbers
+abbrev pub lineAt : Table → List ℕ → ℕ → Topology → List ℕ
+lineAt table numbers i t = treeLine i (getD numbers i 0) (unlinked (table .len) (getD numbers i 0)) t
 
 -- the lines of the first i trees are written
 abbrev pub TreesSoFar : Table → List ℕ → List ℕ → List ℕ → ℕ → ℕ → ℕ → Type 0
-TreesSoFar table numbers out o₁ at next i = (ts : List Topology) (ps : List Pair) → TreesListed table numbers ts ps → Wrote (rows (treeLine (table .len) ps) 0 (take i ts)) out o₁ at next
+TreesSoFar table numbers out o₁ at next i = (ts : List Topology) (ps : List Pair) → TreesListed table numbers ts ps → Wrote (rows (treeLineOf (table .len) ps) 0 (take i ts)) out o₁ at next
 
 module _ {table : Table} {numbers out o₁ : List ℕ} {at next i : ℕ} (w : TreesSoFar table numbers out o₁ at next i) where
   module _ (h : i < table .len) where
-    pub tree-fits : TreeLinesFit table numbers at (length out) → TreeLineFits (table .len) i (getD numbers i 0) (heldAt table i) next (length o₁)
+    line-is : {ts : List Topology} {ps : List Pair} → TreesListed table numbers ts ps → lineAt table numbers i (treeOf ts i) ≡ treeLineOf (table .len) ps i (treeOf ts i)
+    line-is {ts} L = ap (λ (n : ℕ). treeLine i n (unlinked (table .len) n) (treeOf ts i)) (counted L i h)
+
+    pub tree-fits : TreeLinesFit table numbers at (length out) → KeptRoom (λ t. next + length (lineAt table numbers i t)) (heldAt table i) (length o₁)
     tree-fits f =
         let L = f .listed in
-        let room : at + length (rows (treeLine (table .len) (f .linked)) 0 (f .trees)) ≤ length out = rw (L .holds .count, ← trees-rows (length (f .trees)) (f .linked) 0 (f .trees)) (f .room) in
+        let room : at + length (rows (treeLineOf (table .len) (f .linked)) 0 (f .trees)) ≤ length out = rw (L .keeps .count, ← trees-rows (length (f .trees)) (f .linked) 0 (f .trees)) (f .room) in
         record {
-          linked = f .linked;
           topology = treeOf (f .trees) i;
-          on = on-line L i h;
-          few = few-linked L i h;
-          room = turn-room (treeLine (table .len) (f .linked)) (leaf 0) (f .trees) i (inside L i h) (w (f .trees) (f .linked) L) room;
+          keeps = L .keeps .each i (inside L i h);
+          room = rw (line-is L) (turn-room (treeLineOf (table .len) (f .linked)) (leaf 0) (f .trees) i (inside L i h) (w (f .trees) (f .linked) L) room);
         }
 
-    pub trees-more : {o₂ : List ℕ} {r : ℕ} → ((ps : List Pair) (t : Topology) → OnLine i (getD numbers i 0) (heldAt table i) ps t → Wrote (treeLine (table .len) ps i t) o₁ o₂ next r)
-        → TreesSoFar table numbers out o₂ at r (i + 1)
-    trees-more one ts ps L = turn-wrote (treeLine (table .len) ps) (leaf 0) ts i (inside L i h) (w ts ps L) (one ps (treeOf ts i) (on-line L i h))
+    pub trees-more : {o₂ : List ℕ} {r : ℕ} → ((t : Topology) → Keeps (heldAt table i) t → Wrote (lineAt table numbers i t) o₁ o₂ next r) → TreesSoFar table numbers out o₂ at r (i + 1)
+    trees-more one ts ps L =
+        turn-wrote (treeLineOf (table .len) ps) (leaf 0) ts i (inside L i h) (w ts ps L) (rw (line-is L) at (one (treeOf ts i) (L .keeps .each i (inside L i h))))
 
   pub trees-done : i ≤ table .len → table .len ≤ i → (ts : List Topology) (ps : List Pair) → TreesListed table numbers ts ps → Wrote (treeLines (length ts) ps 0 ts) out o₁ at next
   trees-done h l ts ps L =
-      let all : i ≡ length ts = omega (arith, L .holds .count) in
-      rw (trees-rows (length ts) ps 0 ts, ← L .holds .count) (turns-wrote (treeLine (table .len) ps) ts all (w ts ps L))
+      let all : i ≡ length ts = omega (arith, L .keeps .count) in
+      rw (trees-rows (length ts) ps 0 ts, ← L .keeps .count) (turns-wrote (treeLineOf (table .len) ps) ts all (w ts ps L))
 
 -- ---- pairs
 abbrev pub pairRow : ℕ → Pair → List ℕ
@@ -82,7 +81,7 @@ pairRow _ p = pairLine (p .0) (p .1)
 
 -- their lines are rows
 pub pairs-rows : (i : ℕ) (ps : List Pair) → pairLines ps ≡ rows pairRow i ps
-unfolding pairLines pairLine twoFields
+unfolding pairLines
 pairs-rows i [] = refl
 pairs-rows i (p ∷ ps) = ap (λ (l : List ℕ). pairLine (p .0) (p .1) ++ l) (pairs-rows (suc i) ps)
 

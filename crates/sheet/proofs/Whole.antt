@@ -8,9 +8,10 @@ use lib.ListN.{length, length-append}
 use Rattle.meaning.specs.Tree.{Tree as Topology}
 use Rattle.meaning.specs.Listing.{Pair}
 use Rattle.meaning.specs.Sheet.{firstLine, treeLines, pairLines, sheet}
-use Rattle.held.specs.Held.{Wrote}
-use Rattle.held.proofs.Write.{wrote-more, wrote-length}
-use Rattle.tables.specs.declared.Table.{Table}
+use Rattle.lent.specs.Runs.{Wrote}
+use Rattle.lent.proofs.Runs.{wrote-more, wrote-length}
+use Rattle.held.specs.declared.Table.{Table}
+use Rattle.held.proofs.Kept.{keeps-good}
 use Rattle.sheet.specs.Lines.{TreesListed, TreeLinesFit, PairsListed, PairLinesFit, SheetFits}
 use Rattle.sheet.proofs.Sizes.{sheet-short}
 
@@ -23,14 +24,14 @@ module _ {table : Table} {pairs numbers : List ℕ} {m : ℕ} (out : List ℕ) (
   all-fits : length (firstLine (table .len) m) + length (treeLines (length (f .trees)) (f .linked) 0 (f .trees)) + length (pairLines (f .linked)) ≤ length out
   all-fits =
       let L = f .trees-listed in
-      rw (L .holds .count, f .pairs-listed .many, ← sheet-length (f .trees) (f .linked)) (omega (arith, sheet-short (f .trees) (f .linked) (L .good) (L .listing) (f .few), f .room))
+      rw (L .keeps .count, f .pairs-listed .many, ← sheet-length (f .trees) (f .linked)) (omega (arith, sheet-short (f .trees) (f .linked) (keeps-good (L .keeps)) (L .listing) (L .keeps .few), f .room))
 
   pub first-fits : 0 + length (firstLine (table .len) m) ≤ length out
   first-fits = omega (arith, all-fits)
 
   module _ {o₁ : List ℕ} {r₁ : ℕ} (first : Wrote (firstLine (table .len) m) out o₁ 0 r₁) where
     pub trees-fit : TreeLinesFit table numbers r₁ (length o₁)
-    trees-fit = record { trees = f .trees; linked = f .linked; listed = f .trees-listed; few = f .few; room = omega (arith, all-fits, first .behind, wrote-length first) }
+    trees-fit = record { trees = f .trees; linked = f .linked; listed = f .trees-listed; room = omega (arith, all-fits, first .behind, wrote-length first) }
 
     pub pairs-fit : {o₂ : List ℕ} {r₂ : ℕ} → ((ts : List Topology) (ps : List Pair) → TreesListed table numbers ts ps → Wrote (treeLines (length ts) ps 0 ts) o₁ o₂ r₁ r₂) → PairLinesFit pairs m r₂ (length o₂)
     pairs-fit lines =
@@ -42,4 +43,4 @@ pub wrote-sheet : {table : Table} {pairs numbers : List ℕ} {m : ℕ} {out o₁
     → ((ts : List Topology) (ps : List Pair) → TreesListed table numbers ts ps → Wrote (treeLines (length ts) ps 0 ts) o₁ o₂ r₁ r₂) → ((ps : List Pair) → PairsListed pairs m ps → Wrote (pairLines ps) o₂ o₃ r₂ r₃)
     → (ts : List Topology) (ps : List Pair) → TreesListed table numbers ts ps → PairsListed pairs m ps → Wrote (sheet ts ps) out o₃ 0 r₃
 unfolding sheet
-wrote-sheet first trees links ts ps L P = wrote-more (wrote-more (rw (L .holds .count, P .many) at first) (trees ts ps L)) (links ps P)
+wrote-sheet first trees links ts ps L P = wrote-more (wrote-more (rw (L .keeps .count, P .many) at first) (trees ts ps L)) (links ps P)

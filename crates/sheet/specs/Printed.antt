@@ -4,23 +4,20 @@ use mathlib.Core.Path.{_≡_}
 use mathlib.Core.List.{List}
 use Prim.Native.Nat.{ℕ, _≤_}
 use lib.ListN.{length}
+use Rattle.meaning.specs.Limits.{sheetBytes}
 use Rattle.meaning.specs.Tree.{Tree as Topology}
 use Rattle.meaning.specs.Move.{Apart}
 use Rattle.meaning.specs.Listing.{Pair, Listing, At}
 use Rattle.meaning.specs.Answer.{written}
 use Rattle.meaning.specs.Sheet.{Sheet, sheet}
-use Rattle.meaning.proofs.TableText.{AllGood}
-use Rattle.held.specs.Held.{Wrote}
-use Rattle.tables.specs.Trees.{Holds}
-use Rattle.tables.specs.declared.Table.{Table}
+use Rattle.lent.specs.Runs.{Wrote}
+use Rattle.held.specs.Kept.{KeptAll}
+use Rattle.held.specs.declared.Table.{Table}
 
--- the table holds at most 160 trees, and there is room for the longest sheet
+-- the table keeps some trees, and there is room for the longest sheet
 pub record TableFits (table : Table) (len : ℕ) : Type 0 where
-  pub trees : List Topology
-  pub holds : Holds trees table
-  pub good : AllGood trees
-  pub few : length trees ≤ 160
-  pub room : 220902 ≤ len
+  pub kept : KeptAll table
+  pub room : sheetBytes ≤ len
 
 -- the sheet of the trees ts with the pairs that are one move apart was written over out, which left out′
 pub record SheetWritten (ts : List Topology) (out out′ : List ℕ) (r : ℕ) : Type 0 where

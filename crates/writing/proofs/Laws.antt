@@ -7,9 +7,10 @@ use native.Mathlib.Omega.{arith}
 use lib.ListN.{length, set, getD, length-append}
 use Rattle.meaning.specs.Tree.{Tree, digits, write}
 use Rattle.meaning.proofs.Digits.{digits-one, digits-more}
-use Rattle.held.specs.Held.{Holds, Wrote}
+use Rattle.lent.specs.Runs.{Wrote}
+use Rattle.lent.proofs.Runs.{wrote-one, wrote-more}
+use Rattle.held.specs.Held.{Holds}
 use Rattle.held.proofs.Laws.{ForkAt, leafed, each-is}
-use Rattle.held.proofs.Write.{wrote-one, wrote-more}
 
 -- a number of one digit, and one of more
 pub wrote-digit : (n : ℕ) → n ≤ 9 → (out : List ℕ) (at : ℕ) → Wrote (digits n) out (set out at (48 + n)) at (at + 1)

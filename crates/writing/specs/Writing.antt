@@ -1,24 +1,15 @@
--- What the writers of canonical texts and forest texts ask: a tree in canonical order, and room for the text.
+-- What the writer of forest texts asks: a tree that is kept, one of its cuts, and room for the text.
 -- Assumes nothing.
-use mathlib.Core.Path.{_≡_}
-use mathlib.Core.List.{List}
 use Prim.Native.Nat.{ℕ, _+_, _*_, _-_, _≤_, _<_}
 use lib.ListN.{length}
-use Rattle.meaning.specs.Tree.{Tree, Good, canon, leaves, form}
+use Rattle.meaning.specs.Tree.{Tree as Topology, leaves}
 use Rattle.meaning.specs.Move.{cutAt, forest}
-use Rattle.held.specs.Held.{hold}
+use Rattle.held.specs.Kept.{Keeps}
+use Rattle.held.specs.declared.Tree.{Tree}
 
--- xs holds the canonical form of a tree and nothing else, and from `at` on there is room for its canonical text
-pub record FormFits (xs : List ℕ) (at len : ℕ) : Type 0 where
-  pub tree : Tree
-  pub good : Good tree
-  pub held : xs ≡ hold (canon tree)
-  pub room : at + length (form tree) ≤ len
-
--- as FormFits, with the forest text of its cut number c
-pub record ForestFits (xs : List ℕ) (c at len : ℕ) : Type 0 where
-  pub tree : Tree
-  pub good : Good tree
-  pub held : xs ≡ hold (canon tree)
-  pub is-cut : c < 2 * leaves tree - 2
-  pub room : at + length (forest (cutAt tree c)) ≤ len
+-- the record keeps a tree that has a cut number c, and from `at` on there is room for its forest text
+pub record ForestFits (tree : Tree) (c at len : ℕ) : Type 0 where
+  pub topology : Topology
+  pub keeps : Keeps tree topology
+  pub is-cut : c < 2 * leaves topology - 2
+  pub room : at + length (forest (cutAt topology c)) ≤ len

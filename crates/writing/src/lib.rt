@@ -1,12 +1,14 @@
-// Numbers, canonical texts and forest texts, written into lent memory: each function returns the place behind what it wrote.
-ghost use mathlib.Core.Path.{_≡_};
+// Numbers, lines, canonical texts and forest texts, written into lent memory: each function returns the place behind what it wrote.
 ghost use mathlib.Core.List.{[], _∷_, _++_};
 ghost use Prim.Native.Nat.{_+_, _≤_};
 ghost use lib.ListN.{length};
-ghost use Rattle.meaning.specs.Tree.{Tree as Topology, Good, canon, digits, write, form};
+ghost use Rattle.meaning.specs.Tree.{Tree as Topology, digits, write, form};
 ghost use Rattle.meaning.specs.Move.{cutAt, forest};
-ghost use Rattle.held.specs.Held.{Holds, Room, Wrote, hold};
-ghost use Rattle.writing.specs.Writing.{FormFits, ForestFits};
+ghost use Rattle.meaning.specs.Sheet.{twoFields, firstLine, treeLine, pairLine, refusalLine};
+ghost use Rattle.lent.specs.Runs.{Wrote};
+ghost use Rattle.held.specs.Held.{Holds, Room};
+ghost use Rattle.held.specs.Kept.{Keeps, KeptRoom};
+ghost use Rattle.writing.specs.Writing.{ForestFits};
 use held::Tree;
 
 // Writes n in decimal into `out` from `at` on. The digits before the last are those of n / 10.
@@ -54,8 +56,8 @@ fn write_part(out: &mut [u8], at: usize, n: &[u8], k: usize, end: u8) -> usize
 
 // Writes the canonical text. A tree is in canonical order, so it is written as it is held.
 pub fn write_form(out: &mut [u8], at: usize, tree: Tree) -> usize
-    requires { ⌜ FormFits (tree .node) at (length (now out)) ⌝ }
-    ensures { λ r. ⌜ ((t : Topology) → Good t → tree .node ≡ hold (canon t) → Wrote (form t) (now (out .entry)) (now (out .exit)) at r) ⌝ }
+    requires { ⌜ KeptRoom (λ t. at + length (form t)) tree (length (now out)) ⌝ }
+    ensures { λ r. ⌜ ((t : Topology) → Keeps tree t → Wrote (form t) (now (out .entry)) (now (out .exit)) at r) ⌝ }
 {
     let n = tree.node;
     write_part(out, at, &n, 0, b';')
@@ -64,12 +66,83 @@ pub fn write_form(out: &mut [u8], at: usize, tree: Tree) -> usize
 // Writes the forest text of cut c. What is left is put in canonical order anew; what was pruned is in it already, as each
 // subtree of a tree in canonical order is.
 pub fn write_forest(out: &mut [u8], at: usize, tree: Tree, c: usize) -> usize
-    requires { ⌜ ForestFits (tree .node) c at (length (now out)) ⌝ }
-    ensures { λ r. ⌜ ((t : Topology) → Good t → tree .node ≡ hold (canon t) → Wrote (forest (cutAt t c)) (now (out .entry)) (now (out .exit)) at r) ⌝ }
+    requires { ⌜ ForestFits tree c at (length (now out)) ⌝ }
+    ensures { λ r. ⌜ ((t : Topology) → Keeps tree t → Wrote (forest (cutAt t c)) (now (out .entry)) (now (out .exit)) at r) ⌝ }
 {
     let n = tree.node;
     let left = tree.remainder(c).node;
     let pruned = c + 1;
     let next = write_part(out, at, &left, 0, b' ');
     write_part(out, next, &n, pruned, b';')
+}
+
+// Writes the whole text, with nothing behind it.
+fn write_text(out: &mut [u8], at: usize, text: &[u8]) -> usize
+    requires { ⌜ at + length (now text) ≤ length (now out) ⌝ }
+    ensures { λ r. ⌜ Wrote (now (text .entry)) (now (out .entry)) (now (out .exit)) at r ⌝ }
+{
+    lent::copy(out, at, text, 0, text.len())
+}
+
+// Writes a text and the number n behind it.
+fn write_field(out: &mut [u8], at: usize, text: &[u8], n: usize) -> usize
+    requires { ⌜ at + length (now text ++ digits n) ≤ length (now out) ⌝ }
+    ensures { λ r. ⌜ Wrote (now (text .entry) ++ digits n) (now (out .entry)) (now (out .exit)) at r ⌝ }
+{
+    let number = write_text(out, at, text);
+    write_number(out, number, n)
+}
+
+// Writes a line of two numbers, n behind the text a and m behind the text b.
+pub fn write_two_fields(out: &mut [u8], at: usize, a: &[u8], n: usize, b: &[u8], m: usize) -> usize
+    requires { ⌜ at + length (twoFields (now a) n (now b) m) ≤ length (now out) ⌝ }
+    ensures { λ r. ⌜ Wrote (twoFields (now (a .entry)) n (now (b .entry)) m) (now (out .entry)) (now (out .exit)) at r ⌝ }
+{
+    let second = write_field(out, at, a, n);
+    let end = write_field(out, second, b, m);
+    write_text(out, end, b"\n")
+}
+
+// Writes how many trees and how many pairs there are.
+pub fn write_first_line(out: &mut [u8], at: usize, trees: usize, pairs: usize) -> usize
+    requires { ⌜ at + length (firstLine trees pairs) ≤ length (now out) ⌝ }
+    ensures { λ r. ⌜ Wrote (firstLine trees pairs) (now (out .entry)) (now (out .exit)) at r ⌝ }
+{
+    write_two_fields(out, at, b"trees ", trees, b" pairs ", pairs)
+}
+
+// Writes the line of a pair of positions, i and then j.
+pub fn write_pair_line(out: &mut [u8], at: usize, i: usize, j: usize) -> usize
+    requires { ⌜ at + length (pairLine i j) ≤ length (now out) ⌝ }
+    ensures { λ r. ⌜ Wrote (pairLine i j) (now (out .entry)) (now (out .exit)) at r ⌝ }
+{
+    write_two_fields(out, at, b"pair ", i, b" ", j)
+}
+
+// A refusal's line is the whole sheet, with no line before it or behind.
+pub fn write_refusal(out: &mut [u8], at: usize, number: usize, place: usize) -> usize
+    requires { ⌜ at + length (refusalLine number place) ≤ length (now out) ⌝ }
+    ensures { λ r. ⌜ Wrote (refusalLine number place) (now (out .entry)) (now (out .exit)) at r ⌝ }
+{
+    write_two_fields(out, at, b"refused ", number, b" at ", place)
+}
+
+// Writes the line of a tree: its position, its neighbours and its unlinked number, each counted by the caller, and its text.
+pub fn write_tree_line(
+    out: &mut [u8],
+    at: usize,
+    position: usize,
+    neighbours: usize,
+    unlinked: usize,
+    tree: Tree,
+) -> usize
+    requires { ⌜ KeptRoom (λ t. at + length (treeLine position neighbours unlinked t)) tree (length (now out)) ⌝ }
+    ensures { λ r. ⌜ ((t : Topology) → Keeps tree t → Wrote (treeLine position neighbours unlinked t) (now (out .entry)) (now (out .exit)) at r) ⌝ }
+{
+    let linked = write_field(out, at, b"tree ", position);
+    let apart = write_field(out, linked, b" neighbours ", neighbours);
+    let space = write_field(out, apart, b" unlinked ", unlinked);
+    let form = write_text(out, space, b" ");
+    let end = write_form(out, form, tree);
+    write_text(out, end, b"\n")
 }

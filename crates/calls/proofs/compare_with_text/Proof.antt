@@ -1,6 +1,6 @@
 -- `calls::compare_with_text` meets its contract.
 -- Assumes nothing.
-use Rattle.calls.proofs.Pairing.{read-canonically, read-some, second-read, second-refused}
+use Rattle.calls.proofs.Pairing.{read-kept, read-some, second-read, second-refused}
 use borrow.Author.Needs.{needs}
 use Rattle.calls.proofs.compare_with_text.Statement.{statement}
 use Rattle.calls.proofs.compare_with_text.Tie as tie
@@ -21,17 +21,17 @@ compare-requires : tie.Need-compare-requires
 compare-requires c κs =
     let d = c .before .before .before in
     let s = d .before .before .args .s .now in
-    (d .before .before .pre, read-canonically s (d .read-tree .ensures) (c .before .step2 .given .1), read-some s (d .read-tree .ensures) (c .before .step2 .given .1))
+    (d .before .before .pre, read-kept s (d .read-tree .ensures) (c .before .step2 .given .1), read-some s (d .read-tree .ensures) (c .before .step2 .given .1))
 
 returns : tie.Need-returns
-returns c t G h =
+returns c t k =
     let d = c .before .before .before .before in
     second-refused (d .before .before .args .s .now) (d .read-tree .ensures) t (c .before .before .step .given .1) (c .refusal-of-second .ensures)
 
 returns-2 : tie.Need-returns-2
-returns-2 c t G h =
+returns-2 c t k =
     let d = c .before .before .before .before in
-    second-read (d .before .before .args .s .now) (d .read-tree .ensures) (c .before .before .step2 .given .1) t (λ u H k. c .compare .ensures t u G H h k)
+    second-read (d .before .before .args .s .now) (d .read-tree .ensures) (c .before .before .step2 .given .1) t (λ u l. c .compare .ensures t u k l)
 
 pub compare-with-text-spec : {M : Type 1} → statement M
 compare-with-text-spec =

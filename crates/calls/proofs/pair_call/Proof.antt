@@ -1,6 +1,6 @@
 -- `calls::pair_call` meets its contract.
 -- Assumes nothing.
-use Rattle.calls.proofs.Pairing.{pair-long, pair-long-second, pair-refused, read-canonically, pair-read}
+use Rattle.calls.proofs.Pairing.{pair-long, pair-long-second, pair-refused, read-kept, pair-read}
 use borrow.Author.Needs.{needs}
 use Rattle.calls.proofs.pair_call.Statement.{statement}
 use Rattle.calls.proofs.pair_call.Tie as tie
@@ -33,7 +33,7 @@ enum-told c = search needs
 compare-with-text-requires : tie.Need-compare-with-text-requires
 compare-with-text-requires c κs =
     let d = c .before .before in
-    read-canonically (d .before .before .before .before .before .args .first .now) (d .read-tree .ensures) (c .enum-told .given .1)
+    read-kept (d .before .before .before .before .before .args .first .now) (d .read-tree .ensures) (c .enum-told .given .1)
 
 returns-3 : tie.Need-returns-3
 returns-3 c =

@@ -1,41 +1,36 @@
 -- `calls::read_lent` meets its contract.
 -- Assumes nothing.
-use Rattle.calls.proofs.Texts.{lent-short, lent-long, lent-read}
 use borrow.Author.Needs.{needs}
+use Rattle.meaning.specs.Reading.{readTree}
+use Rattle.calls.proofs.Lent.{lent-withheld, lent-read}
 use Rattle.calls.proofs.read_lent.Statement.{statement}
 use Rattle.calls.proofs.read_lent.Tie as tie
 
-refused-size-requires : tie.Need-refused-size-requires
-refused-size-requires c κs = search needs
+withheld-requires : tie.Need-withheld-requires
+withheld-requires c κs = search needs
+
+refuse-requires : tie.Need-refuse-requires
+refuse-requires c κs = search needs
+
+empty-requires : tie.Need-empty-requires
+empty-requires c κs = search needs
 
 returns : tie.Need-returns
 returns c =
-    let a = c .before .before .before .args in
-    lent-short (a .s .now) (a .len) (a .least) (c .before .if1 .taken) (c .refused-size .ensures)
-
-refused-size-requires-2 : tie.Need-refused-size-requires-2
-refused-size-requires-2 c κs = search needs
-
-returns-2 : tie.Need-returns-2
-returns-2 c =
-    let a = c .before .before .before .before .args in
-    lent-long (a .s .now) (a .len) (a .least) (c .before .before .if1 .left) (c .before .if2 .taken) (c .refused-size2 .ensures)
+    let tested = c .before .before .before in
+    let a = tested .before .before .args in
+    let s = a .s .now in
+    lent-withheld s (readTree s) (tested .withheld .result) (a .fits) (tested .withheld .ensures) (c .before .before .if1 .taken) (c .before .refuse .ensures)
 
 read-tree-requires : tie.Need-read-tree-requires
 read-tree-requires c κs = search needs
 
-returns-3 : tie.Need-returns-3
-returns-3 c =
-    let a = c .before .before .before .before .args in
-    lent-read (a .s .now) (a .len) (a .least) (c .before .before .if1 .left) (c .before .if2 .left) (c .read-tree .ensures)
+returns-2 : tie.Need-returns-2
+returns-2 c =
+    let tested = c .before .before in
+    let a = tested .before .before .args in
+    let s = a .s .now in
+    lent-read s (readTree s) (tested .withheld .result) (a .fits) (tested .withheld .ensures) (c .before .if1 .left) (c .read-tree .ensures)
 
 pub read-lent-spec : {M : Type 1} → statement M
-read-lent-spec =
-    tie.close
-    (tie.spec
-    refused-size-requires
-    returns
-    refused-size-requires-2
-    returns-2
-    read-tree-requires
-    returns-3)
+read-lent-spec = tie.close (tie.spec withheld-requires refuse-requires empty-requires returns read-tree-requires returns-2)

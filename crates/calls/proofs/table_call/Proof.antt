@@ -1,9 +1,37 @@
 -- `calls::table_call` meets its contract.
 -- Assumes nothing.
 use Rattle.calls.proofs.Tabling.{call-room, call-refused, call-written}
+use mathlib.Core.Path.{ap, _∙_}
+use mathlib.Core.Bool.{Bool, _&&_}
 use borrow.Author.Needs.{needs}
+use lib.Dec.{leb}
+use lib.ListN.{length}
+use Rattle.meaning.specs.Limits.{tableBytes}
+use Rattle.meaning.specs.Answer.{TableMemory}
+use Rattle.meaning.specs.Calls.{tableCallRead}
+use Rattle.calls.specs.Tabled.{textSlices}
+use Rattle.calls.specs.Lent.{TableLent}
+use Rattle.calls.proofs.Lent.{measured}
 use Rattle.calls.proofs.table_call.Statement.{statement}
 use Rattle.calls.proofs.table_call.Tie as tie
+
+-- the entry and the lent memory, from where the text was read, and what the call is given
+abbrev start : tie.After-read-lent-table → tie.Start
+start d = d .before .before .before .before .before .before
+
+abbrev memory : tie.After-read-lent-table → TableMemory
+memory d = textSlices (start d .args .texts .now) (start d .args .ends .now)
+
+given : (d : tie.After-read-lent-table) → TableLent (d .read-lent-table .result) (tableCallRead (start d .args .s .now) (memory d))
+given d =
+    let fits = d .before .enough2 .ensures ∙ ap (λ (b : Bool). leb tableBytes (length (memory d .texts)) && b) (d .before .before .enough .ensures) in
+    measured _ fits (d .read-lent-table .ensures)
+
+enough-requires : tie.Need-enough-requires
+enough-requires c κs = search needs
+
+enough-requires-2 : tie.Need-enough-requires-2
+enough-requires-2 c κs = search needs
 
 read-lent-table-requires : tie.Need-read-lent-table-requires
 read-lent-table-requires c κs = search needs
@@ -14,17 +42,15 @@ enum-known-step c = search needs
 enum-known-step-2 : tie.Need-enum-known-step-2
 enum-known-step-2 c = search needs
 
-write-table-requires : tie.Need-write-table-requires
-write-table-requires c κs =
+write-texts-requires : tie.Need-write-texts-requires
+write-texts-requires c κs =
     let d = c .before .before .before .before .before in
-    let a = d .before .before .before .before .args in
-    call-room (a .s .now) (record { texts = a .texts .now; ends = a .ends .now }) (d .read-lent-table .ensures) (c .before .before .before .step2 .given .1)
+    call-room (start d .args .s .now) (memory d) (given d) (c .before .before .before .step2 .given .1)
 
 returns : tie.Need-returns
 returns c =
     let d = c .before .before .before in
-    let a = d .before .before .before .before .args in
-    call-refused (a .s .now) (record { texts = a .texts .now; ends = a .ends .now }) (d .read-lent-table .ensures) (c .before .step .given .1)
+    call-refused (start d .args .s .now) (memory d) (given d) (c .before .step .given .1)
 
 same-length : tie.Need-same-length
 same-length c = search needs
@@ -36,17 +62,18 @@ returns-2 : tie.Need-returns-2
 returns-2 c =
     let w = c .before .before .before .before in
     let d = w .before .before .before .before .before .before in
-    let a = d .before .before .before .before .args in
-    call-written (a .s .now) (record { texts = a .texts .now; ends = a .ends .now }) (d .read-lent-table .ensures) (w .before .before .before .before .step2 .given .1) (w .write-table .ensures)
+    call-written (start d .args .s .now) (memory d) (given d) (w .before .before .before .before .step2 .given .1) (w .write-texts .ensures)
 
 pub table-call-spec : {M : Type 1} → statement M
 table-call-spec =
     tie.close
     (tie.spec
+    enough-requires
+    enough-requires-2
     read-lent-table-requires
     enum-known-step
     enum-known-step-2
-    write-table-requires
+    write-texts-requires
     returns
     same-length
     same-length-2

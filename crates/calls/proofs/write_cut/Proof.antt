@@ -12,7 +12,7 @@ refusal-at-zero-requires : tie.Need-refusal-at-zero-requires
 refusal-at-zero-requires c κs = search needs
 
 returns : tie.Need-returns
-returns c t G h e =
+returns c t k e =
     let a = c .before .before .before .args in
     no-such-cut t (a .cut) (a .count) (a .out .now) e (c .before .if1 .taken) (c .refusal-at-zero .ensures)
 
@@ -23,10 +23,10 @@ same-length : tie.Need-same-length
 same-length c = search needs
 
 returns-2 : tie.Need-returns-2
-returns-2 c t G h e =
+returns-2 c t k e =
     let d = c .before .before .before .before in
     let a = d .before .before .args in
-    cut-written t (a .cut) (a .count) (a .out .now) e G (d .before .before .pre .room) (d .if1 .left) (c .before .before .write-forest .ensures t G h)
+    cut-written t (a .cut) (a .count) (a .out .now) e k (d .before .before .pre .room) (d .if1 .left) (c .before .before .write-forest .ensures t k)
 
 pub write-cut-spec : {M : Type 1} → statement M
 write-cut-spec =

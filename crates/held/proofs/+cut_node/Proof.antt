@@ -1,13 +1,15 @@
--- `held::cut_node` meets its contract. The measure of the walk is the leaves below the node. Assumes nothing.
+-- `held::cut_node` meets its contract. The measure of the walk is the leaves below the node.
+-- Assumes nothing.
 use Prim.Native.Nat.{ℕ, _+_, _-_, _<_}
 use mathlib.Core.List.{List}
 use mathlib.Core.Path.{_≡_, ap, _∙_}
 use native.Mathlib.Omega.{arith}
 use lib.ListN.{length, getD, set, length-set}
 use Rattle.meaning.specs.Tree.{leaves}
-use Rattle.held.specs.Held.{Holds, Wrote, nodes, pre, cutIn}
+use Rattle.lent.specs.Runs.{Wrote}
+use Rattle.held.specs.Held.{Holds, nodes, pre, cutIn}
 use Rattle.held.proofs.Laws.{ForkAt, fork-nodes, within, first-falls, second-at, second-falls, length-pre}
-use Rattle.held.proofs.Write.{wrote-length}
+use Rattle.lent.proofs.Runs.{wrote-length}
 use Rattle.held.proofs.Cut.{fork-at, gone-fits, left-at-first, left-at-second, cuts-first, room-first, left-in-first, cuts-second, left-in-second}
 use borrow.Fn.Kinds.{In}
 use borrow.Fn.PlainCycle.{Measures, is, falls, and}

@@ -1,4 +1,5 @@
--- `held::note_smallest` meets its contract. The measure of the walk is the leaves below the node. Assumes nothing.
+-- `held::note_smallest` meets its contract. The measure of the walk is the leaves below the node.
+-- Assumes nothing.
 use Prim.Native.Nat.{ℕ, _+_, _-_, _<_, _≤_, min}
 use mathlib.Core.Path.{_≡_, _∙_}
 use mathlib.Core.Logic.{⊎-elim}

@@ -1,13 +1,15 @@
--- `held::order` meets its contract. The measure of the walk is the leaves below the node. Assumes nothing.
+-- `held::order` meets its contract. The measure of the walk is the leaves below the node.
+-- Assumes nothing.
 use Prim.Native.Nat.{ℕ, _+_, _-_, _<_, _≤_}
 use mathlib.Core.List.{List}
 use mathlib.Core.Path.{_≡_, _∙_}
 use native.Mathlib.Omega.{arith}
 use lib.ListN.{length, getD, set, length-set}
 use Rattle.meaning.specs.Tree.{canon}
-use Rattle.held.specs.Held.{Holds, Marks, Wrote, nodes, pre}
+use Rattle.lent.specs.Runs.{Wrote}
+use Rattle.held.specs.Held.{Holds, Marks, nodes, pre}
 use Rattle.held.proofs.Laws.{ForkAt, fork-nodes, within, some-nodes, forked, first-falls, second-at, second-falls}
-use Rattle.held.proofs.Write.{wrote-length}
+use Rattle.lent.proofs.Runs.{wrote-length}
 use Rattle.held.proofs.Canon.{length-canon, mark-in, marks-first, marks-second, ordered-leaf, ordered-keep, ordered-swap}
 use borrow.Fn.Kinds.{In}
 use borrow.Fn.PlainCycle.{Measures, is, falls, and}

@@ -1,11 +1,12 @@
--- `held::copy_node` meets its contract: a subtree is one run of bytes. Assumes nothing.
+-- `held::copy_node` meets its contract: a subtree is one run of bytes.
+-- Assumes nothing.
 use borrow.Author.Needs.{needs}
 use Prim.Native.Nat.{ℕ}
 use mathlib.Core.List.{List}
 use mathlib.Core.Path.{ap, subst, _∙_}
 use native.Mathlib.Omega.{arith}
 use lib.ListN.{take, drop}
-use Rattle.held.specs.Held.{Wrote}
+use Rattle.lent.specs.Runs.{Wrote}
 use Rattle.held.proofs.Laws.{inside, taken-is}
 use Rattle.held.proofs.copy_node.Statement.{statement}
 use Rattle.held.proofs.copy_node.Tie as tie

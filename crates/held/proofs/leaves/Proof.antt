@@ -1,4 +1,5 @@
--- `held::leaves` meets its contract: the byte tells a leaf from a fork. Assumes nothing.
+-- `held::leaves` meets its contract: the byte tells a leaf from a fork.
+-- Assumes nothing.
 use borrow.Author.Needs.{needs}
 use mathlib.Core.Path.{_≡_, refl}
 use native.Mathlib.Omega.{arith}

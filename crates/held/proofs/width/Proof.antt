@@ -1,4 +1,5 @@
--- `held::width` meets its contract: a tree has one node fewer than twice its leaves. Assumes nothing.
+-- `held::width` meets its contract: a tree has one node fewer than twice its leaves.
+-- Assumes nothing.
 use borrow.Author.Needs.{needs}
 use native.Mathlib.Omega.{arith}
 use Rattle.held.proofs.Laws.{some-leaves, twice}

@@ -1,4 +1,5 @@
--- `pairs::same_pruned` meets its contract: what a cut takes away is the subtree at its node. Assumes nothing.
+-- `pairs::same_pruned` meets its contract: what a cut takes away is the subtree at its node.
+-- Assumes nothing.
 use borrow.Author.Needs.{needs}
 use Prim.Native.Nat.{_+_, _<_}
 use native.Mathlib.Omega.{arith}

@@ -1,4 +1,5 @@
--- `pairs::same_remainder` meets its contract. Assumes nothing.
+-- `pairs::same_remainder` meets its contract.
+-- Assumes nothing.
 use borrow.Author.Needs.{needs}
 use mathlib.Core.Path.{_≡_}
 use lib.ListN.{length}

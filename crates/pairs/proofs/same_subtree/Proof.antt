@@ -1,4 +1,5 @@
--- `pairs::same_subtree` meets its contract: subtrees are the same where their first bytes and their runs are. Assumes nothing.
+-- `pairs::same_subtree` meets its contract: subtrees are the same where their first bytes and their runs are.
+-- Assumes nothing.
 use borrow.Author.Needs.{needs}
 use native.Mathlib.Omega.{arith}
 use Rattle.held.proofs.Laws.{within}

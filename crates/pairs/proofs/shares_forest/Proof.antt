@@ -1,4 +1,5 @@
--- `pairs::shares_forest` meets its contract. The loops' invariants: no two cuts that were passed have the same forest. Assumes nothing.
+-- `pairs::shares_forest` meets its contract. The loops' invariants: no two cuts that were passed have the same forest.
+-- Assumes nothing.
 use borrow.Author.Count.{below-more}
 use mathlib.Core.Path.{_≡_, refl}
 use mathlib.Core.Bool.{false}
@@ -8,7 +9,7 @@ use native.Mathlib.Omega.{arith}
 use Rattle.held.specs.Held.{HasCut}
 use Rattle.held.proofs.Laws.{some-nodes}
 use Rattle.pairs.specs.Pair.{SharesForest}
-use Rattle.pairs.proofs.Answers.{deny}
+use Rattle.lent.proofs.Says.{deny}
 use Rattle.pairs.proofs.Search.{Other, has-cut, other-pruned, other-rest, same-forest, none}
 use Rattle.pairs.proofs.shares_forest.Statement.{statement}
 use Rattle.pairs.proofs.shares_forest.Tie as tie

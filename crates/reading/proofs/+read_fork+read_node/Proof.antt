@@ -26,7 +26,7 @@ use Rattle.reading.proofs.expect_byte.Reads as expect-byte-reads
 use Rattle.reading.proofs.fork_byte.Reads as fork-byte-reads
 use Rattle.reading.proofs.is_digit.Reads as is-digit-reads
 use Rattle.reading.proofs.read_label.Reads as read-label-reads
-use Rattle.reading.proofs.refused.Reads as refused-reads
+use Rattle.reading.proofs.refuse.Reads as refuse-reads
 use Rattle.reading.proofs.skip_blanks.Reads as skip-blanks-reads
 use Rattle.reading.proofs.+read_fork+read_node.{statement}
 use Rattle.reading.proofs.+read_fork+read_node.Tie.{close}
@@ -55,7 +55,7 @@ abbrev fork-claims : ℕ → read-fork-lts.Claims
 fork-claims t = (read-node-below t, read-node.Post, expect-byte-reads.Asked, expect-byte-reads.Learnt, fork-byte-reads.Asked, fork-byte-reads.Learnt)
 
 abbrev node-claims : ℕ → read-node-lts.Claims
-node-claims t = (skip-blanks-reads.Asked, skip-blanks-reads.Learnt, byte-at-reads.Asked, byte-at-reads.Learnt, is-digit-reads.Asked, is-digit-reads.Learnt, read-label-reads.Asked, read-label-reads.Learnt, refused-reads.Asked, refused-reads.Learnt, read-fork-below t, read-fork.Post)
+node-claims t = (skip-blanks-reads.Asked, skip-blanks-reads.Learnt, byte-at-reads.Asked, byte-at-reads.Learnt, is-digit-reads.Asked, is-digit-reads.Learnt, read-label-reads.Asked, read-label-reads.Learnt, refuse-reads.Asked, refuse-reads.Learnt, read-fork-below t, read-fork.Post)
 
 -- the entry, from where the first node was read, and what that says
 abbrev start : (t : ℕ) (c : read-fork-lts.After-read-node (fork-claims t) (read-fork-at t) read-fork.Post) → read-fork-lts.Start (fork-claims t) (read-fork-at t) read-fork.Post
@@ -192,14 +192,14 @@ read-node-returns t c =
     let a = d .before .before .before .before .before .before .args in
     via-label (a .s .now) (a .from) (d .before .before .before .skip-blanks .ensures) (d .before .before .byte-at .ensures) (d .before .is-digit .ensures) (a .room) (d .if1 .taken) (c .before .before .read-label .ensures)
 
-read-node-refused-requires : (t : ℕ) → read-node-lts.Need-refused-requires (node-claims t) (read-node-at t) read-node.Post
-read-node-refused-requires t c κs = search needs
+read-node-refuse-requires : (t : ℕ) → read-node-lts.Need-refuse-requires (node-claims t) (read-node-at t) read-node.Post
+read-node-refuse-requires t c κs = search needs
 
 read-node-returns-2 : (t : ℕ) → read-node-lts.Need-returns-2 (node-claims t) (read-node-at t) read-node.Post
 read-node-returns-2 t c =
     let d = c .before .before .before in
     let a = d .before .before .before .before .before .before .args in
-    via-deep (a .s .now) (a .from) (d .before .before .before .skip-blanks .ensures) (d .before .before .byte-at .ensures) (d .before .is-digit .ensures) (a .room) (d .if1 .left) (c .before .before .if2 .taken) (c .before .if3 .taken) (c .refused .ensures) refl
+    via-deep (a .s .now) (a .from) (d .before .before .before .skip-blanks .ensures) (d .before .before .byte-at .ensures) (d .before .is-digit .ensures) (a .room) (d .if1 .left) (c .before .before .if2 .taken) (c .before .if3 .taken) (c .refuse .ensures) refl
 
 read-node-add-read-fork : (t : ℕ) → read-node-lts.Need-add-read-fork (node-claims t) (read-node-at t) read-node.Post
 read-node-add-read-fork t c = omega (arith, inside (c .before .before .before .before .before .before .before .before .args .s .now) (c .before .before .before .before .before .skip-blanks .result) (sym (c .before .before .before .before .byte-at .ensures) ∙ c .before .if2 .taken) (lit< tt))
@@ -222,14 +222,14 @@ read-node-returns-3 t c =
     let a = d .before .before .before .before .before .before .args in
     via-fork (a .s .now) (a .from) (d .before .before .before .skip-blanks .ensures) (d .before .before .byte-at .ensures) (d .before .is-digit .ensures) (a .room) (d .if1 .left) (e .before .if2 .taken) (e .if3 .left) (c .before .before .read-fork .ensures)
 
-read-node-refused-requires-2 : (t : ℕ) → read-node-lts.Need-refused-requires-2 (node-claims t) (read-node-at t) read-node.Post
-read-node-refused-requires-2 t c κs = search needs
+read-node-refuse-requires-2 : (t : ℕ) → read-node-lts.Need-refuse-requires-2 (node-claims t) (read-node-at t) read-node.Post
+read-node-refuse-requires-2 t c κs = search needs
 
 read-node-returns-4 : (t : ℕ) → read-node-lts.Need-returns-4 (node-claims t) (read-node-at t) read-node.Post
 read-node-returns-4 t c =
     let d = c .before .before in
     let a = d .before .before .before .before .before .before .args in
-    via-wrong (a .s .now) (a .from) (d .before .before .before .skip-blanks .ensures) (d .before .before .byte-at .ensures) (d .before .is-digit .ensures) (a .room) (d .if1 .left) (c .before .if2 .left) (c .refused2 .ensures) refl
+    via-wrong (a .s .now) (a .from) (d .before .before .before .skip-blanks .ensures) (d .before .before .byte-at .ensures) (d .before .is-digit .ensures) (a .room) (d .if1 .left) (c .before .if2 .left) (c .refuse2 .ensures) refl
 
 pub +read-fork+read-node-spec : {M : Type 1} → statement M
 +read-fork+read-node-spec = close μ-read-fork μ-read-node (λ t. read-fork-lts.spec (fork-claims t)
@@ -266,12 +266,12 @@ pub +read-fork+read-node-spec : {M : Type 1} → statement M
     (read-node-read-label-requires t)
     (read-node-same-length t)
     (read-node-returns t)
-    (read-node-refused-requires t)
+    (read-node-refuse-requires t)
     (read-node-returns-2 t)
     (read-node-add-read-fork t)
     (read-node-sub-read-fork t)
     (read-node-read-fork-requires t)
     (read-node-same-length-2 t)
     (read-node-returns-3 t)
-    (read-node-refused-requires-2 t)
+    (read-node-refuse-requires-2 t)
     (read-node-returns-4 t)

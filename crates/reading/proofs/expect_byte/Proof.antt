@@ -20,8 +20,8 @@ byte-at-requires c κs = search needs
 add-t9 : tie.Need-add-t9
 add-t9 c = omega (arith, inside (c .before .before .before .before .args .s .now) _ (sym (c .before .byte-at .ensures) ∙ c .if1 .taken) (c .before .before .before .before .pre))
 
-refused-requires : tie.Need-refused-requires
-refused-requires c κs = search needs
+refuse-requires : tie.Need-refuse-requires
+refuse-requires c κs = search needs
 
 returns : tie.Need-returns
 returns c =
@@ -33,9 +33,9 @@ returns-2 : tie.Need-returns-2
 returns-2 c =
     let a = c .before .before .before .before .before .args in
     let q = c .before .before .before .skip-blanks .ensures in
-    c .refused .ensures ∙ ap (refusedAt 1) q ∙ sym (step-no (a .b) (a .s .now) (a .from) (a .at) (λ e. c .before .if1 .left (c .before .before .byte-at .ensures ∙ (rw (← q) at e))))
+    c .refuse .ensures ∙ ap (refusedAt 1) q ∙ sym (step-no (a .b) (a .s .now) (a .from) (a .at) (λ e. c .before .if1 .left (c .before .before .byte-at .ensures ∙ (rw (← q) at e))))
 
 pub expect-byte-spec : {M : Type 1} → statement M
 expect-byte-spec =
     tie.close
-    (tie.spec skip-blanks-requires byte-at-requires add-t9 refused-requires returns returns-2)
+    (tie.spec skip-blanks-requires byte-at-requires add-t9 refuse-requires returns returns-2)

@@ -1,114 +1,101 @@
 -- `reading::read_label` meets its contract.
 -- Assumes nothing.
-use mathlib.Core.Bool.{false}
+use mathlib.Core.Bool.{Bool, false}
+use mathlib.Core.Path.{_≡_, refl, sym, ap, subst, _∙_}
 use Prim.Native.Nat.{ℕ, _+_}
-use Rattle.reading.specs.declared.Step.the-variants.{Next}
-use mathlib.Core.Path.{refl, sym, ap, subst, _∙_}
 use native.Mathlib.Omega.{arith}
-use Rattle.meaning.proofs.Ways.{label-zero, label-low, label-high, label-again}
+use borrow.Author.Needs.{needs}
+use Rattle.meaning.specs.Reading.{byteAt, value, badLabel}
+use Rattle.meaning.proofs.Ways.{label-bad, label-again}
+use Rattle.reading.specs.declared.Step.the-variants.{Next}
 use Rattle.reading.proofs.Draft.{draft-in}
 use Rattle.reading.proofs.Meet.{meets-refused, Checked, checked, label-room, label-got}
-use borrow.Author.Needs.{needs}
 use Rattle.reading.proofs.read_label.Statement.{statement}
 use Rattle.reading.proofs.read_label.Tie as tie
-
-byte-at-requires : tie.Need-byte-at-requires
-byte-at-requires c κs = search needs
-
-refused-requires : tie.Need-refused-requires
-refused-requires c κs = search needs
-
-returns : tie.Need-returns
-returns c =
-    let a = c .before .before .before .before .before .args in
-    meets-refused (label-zero (a .s .now) (a .q) _ (sym (c .before .before .byte-at .ensures) ∙ c .before .if1 .taken)) (c .refused .ensures) refl
 
 digit-run-requires : tie.Need-digit-run-requires
 digit-run-requires c κs = search needs
 
-refused-requires-2 : tie.Need-refused-requires-2
-refused-requires-2 c κs = search needs
+byte-at-requires : tie.Need-byte-at-requires
+byte-at-requires c κs = search needs
 
-returns-2 : tie.Need-returns-2
-returns-2 c =
-    let d = c .before .before .before in
-    let a = d .before .before .before .before .args in
-    meets-refused (label-low (a .s .now) (a .q) _ (λ e. d .if1 .left (d .before .byte-at .ensures ∙ e)) (omega (arith, c .before .if2 .taken, c .before .before .digit-run .ensures .1))) (c .refused2 .ensures) refl
+bad-label-requires : tie.Need-bad-label-requires
+bad-label-requires c κs = search needs
 
-wide-requires : tie.Need-wide-requires
-wide-requires c κs = search needs
+refuse-requires : tie.Need-refuse-requires
+refuse-requires c κs = search needs
 
-refused-requires-3 : tie.Need-refused-requires-3
-refused-requires-3 c κs = search needs
+-- the entry, from where the label was tested
+abbrev start : (c : tie.After-bad-label) → tie.Start
+start c = c .before .before .before .before .before
 
-returns-3 : tie.Need-returns-3
-returns-3 c =
-    let run = c .before .before .before .before in
-    let d = run .before in
-    let a = d .before .before .before .before .args in
-    meets-refused (label-high (a .s .now) (a .q) _ (λ e. d .if1 .left (d .before .byte-at .ensures ∙ e)) (omega (arith, run .digit-run .ensures .1)) (omega (arith, run .digit-run .ensures .1, c .before .if3 .taken, c .before .before .wide .ensures))) (c .refused3 .ensures) refl
+-- the answer is that of the rule
+abbrev rule : (c : tie.After-bad-label) → ℕ → Bool
+rule c b = badLabel b (value (start c .args .s .now) (start c .args .q))
 
--- the entry, from where the label was looked for
-abbrev start : (c : tie.After-has-label) → tie.Start
-start c = c .before .before .before .before .before .before .before .before .before .before
+tested : (c : tie.After-bad-label) → c .bad-label .result ≡ rule c (byteAt (start c .args .s .now) (start c .args .q))
+tested c = c .bad-label .ensures _ (c .before .before .digit-run .ensures .1) ∙ ap (rule c) (c .before .byte-at .ensures)
 
-known : (c : tie.After-has-label) → Checked (start c .args .s .now) (start c .args .q) (start c .args .node .now) (start c .args .at) (c .before .before .before .before .before .digit-run .result .value) (c .has-label .result)
-known c =
-    let run = c .before .before .before .before .before in
-    let d = run .before in
-    checked _ _ _ _ _ _ (λ e. d .if1 .left (d .before .byte-at .ensures ∙ e)) (run .digit-run .ensures .1) (c .before .before .before .before .if2 .left) (omega (arith, c .before .before .if3 .left, c .before .before .before .wide .ensures)) (c .has-label .ensures)
+returns : tie.Need-returns
+returns c = meets-refused (label-bad _ _ _ (sym (tested (c .before .before)) ∙ c .before .if1 .taken)) (c .refuse .ensures) refl
 
-unseen : (c : tie.Else4) → Checked (start (c .before) .args .s .now) (start (c .before) .args .q) (start (c .before) .args .node .now) (start (c .before) .args .at) (c .before .before .before .before .before .before .digit-run .result .value) false
-unseen c = subst (Checked _ _ _ _ _) (c .if4 .left) (known (c .before))
+-- what is known of the label once it was looked for, and the place where it was tested
+abbrev Label : tie.After-bad-label → Bool → Type 0
+Label d found =
+    let a = start d .args in
+    Checked (a .s .now) (a .q) (a .node .now) (a .at) (d .before .before .digit-run .result .value) found
 
-has-label-requires : tie.Need-has-label-requires
-has-label-requires c κs = omega (arith, draft-in (c .before .before .before .before .before .before .before .before .before .pre))
+abbrev test : (c : tie.After-contains) → tie.After-bad-label
+test c = c .before .before .before
 
-refused-requires-4 : tie.Need-refused-requires-4
-refused-requires-4 c κs = search needs
+known : (c : tie.After-contains) → Label (test c) (c .contains .result)
+known c = checked _ _ _ _ _ _ (sym (tested (test c)) ∙ c .before .before .if1 .left) (test c .before .before .digit-run .ensures .1) (c .contains .ensures)
+
+unseen : (c : tie.Else2) → Label (test (c .before)) false
+unseen c = subst (Checked _ _ _ _ _) (c .if2 .left) (known (c .before))
+
+contains-requires : tie.Need-contains-requires
+contains-requires c κs = omega (arith, draft-in (start (c .before .before) .pre))
+
+refuse-requires-2 : tie.Need-refuse-requires-2
+refuse-requires-2 c κs = search needs
 
 same-length : tie.Need-same-length
 same-length c = search needs
 
-returns-4 : tie.Need-returns-4
-returns-4 c =
-    let k = known (c .before .before) in
-    meets-refused (label-again _ _ _ (k .no-zero) (k .low) (k .high) (k .held ∙ c .before .if4 .taken)) (c .refused4 .ensures) refl
+returns-2 : tie.Need-returns-2
+returns-2 c = let k = known (c .before .before) in meets-refused (label-again _ _ _ (k .allowed) (k .held ∙ c .before .if2 .taken)) (c .refuse2 .ensures) refl
 
 cast-node : tie.Need-cast-node
 cast-node c = search needs
 
 slice-write-node : tie.Need-slice-write-node
-slice-write-node c = omega (arith, label-room (unseen c) (start (c .before) .pre))
+slice-write-node c = omega (arith, label-room (unseen c) (start (test (c .before)) .pre))
 
-add-t9 : tie.Need-add-t9
-add-t9 c = omega (arith, label-room (unseen c) (start (c .before) .pre), start (c .before) .pre .size)
+add-t13 : tie.Need-add-t13
+add-t13 c = let d = start (test (c .before)) in omega (arith, label-room (unseen c) (d .pre), d .pre .size)
 
 same-length-2 : tie.Need-same-length-2
 same-length-2 c = search needs
 
-returns-5 : tie.Need-returns-5
-returns-5 c = label-got (unseen c) (ap (λ (p : ℕ). Next p (start (c .before) .args .at + 1)) (c .before .before .before .before .before .before .digit-run .ensures .0))
+returns-3 : tie.Need-returns-3
+returns-3 c = let d = test (c .before) in label-got (unseen c) (ap (λ (p : ℕ). Next p (start d .args .at + 1)) (d .before .before .digit-run .ensures .0))
 
 pub read-label-spec : {M : Type 1} → statement M
 read-label-spec =
     tie.close
     (tie.spec
-    byte-at-requires
-    refused-requires
-    returns
     digit-run-requires
-    refused-requires-2
-    returns-2
-    wide-requires
-    refused-requires-3
-    returns-3
-    has-label-requires
-    refused-requires-4
+    byte-at-requires
+    bad-label-requires
+    refuse-requires
+    returns
+    contains-requires
+    refuse-requires-2
     same-length
-    returns-4
+    returns-2
     cast-node
     slice-write-node
-    add-t9
+    add-t13
     same-length-2
-    returns-5)
+    returns-3)

@@ -20,8 +20,8 @@ returns c = one-refused (c .before .before .before .before .args .s .now) (c .be
 skip-blanks-requires : tie.Need-skip-blanks-requires
 skip-blanks-requires c κs = search needs
 
-refused-requires : tie.Need-refused-requires
-refused-requires c κs = search needs
+refuse-requires : tie.Need-refuse-requires
+refuse-requires c κs = search needs
 
 empty-requires : tie.Need-empty-requires
 empty-requires c κs = search needs
@@ -30,7 +30,7 @@ returns-2 : tie.Need-returns-2
 returns-2 c =
     let d = c .before .before .before in
     let read = d .before .before .before .before in
-    one-more (read .before .before .args .s .now) (read .read-at .ensures) (d .before .before .step .given .1) (d .skip-blanks .ensures) (c .before .before .if1 .taken) (c .before .refused .ensures)
+    one-more (read .before .before .args .s .now) (read .read-at .ensures) (d .before .before .step .given .1) (d .skip-blanks .ensures) (c .before .before .if1 .taken) (c .before .refuse .ensures)
 
 returns-3 : tie.Need-returns-3
 returns-3 c =
@@ -47,7 +47,7 @@ read-tree-spec =
     enum-told
     returns
     skip-blanks-requires
-    refused-requires
+    refuse-requires
     empty-requires
     returns-2
     returns-3)

@@ -38,19 +38,19 @@ abbrev begun : tie.After-read-table → tie.Start
 begun c = c .before .before .before
 
 -- and accepted
-abbrev told : tie.After-write-table-arg → tie.After-enum-told
+abbrev told : tie.After-write-table-sheet-arg → tie.After-enum-told
 told c = c .before
 
-table-of : (c : tie.After-write-table-arg) → Taken (begun (told c .before .before) .args .s .now) (told c .before .before .read-table .result .table) (length (begun (told c .before .before) .args .out .now))
+table-of : (c : tie.After-write-table-sheet-arg) → Taken (begun (told c .before .before) .args .s .now) (told c .before .before .read-table .result .table) (length (begun (told c .before .before) .args .out .now))
 table-of c =
     let read = told c .before .before in
-    table-taken (begun read .args .s .now) (begun read .args .out .now) (c .write-table-arg .given .0 .1) (read .before .if1 .left) (read .read-table .ensures) (told c .enum-told .given .1)
+    table-taken (begun read .args .s .now) (begun read .args .out .now) (c .write-table-sheet-arg .given .0 .1) (read .before .if1 .left) (read .read-table .ensures) (told c .enum-told .given .1)
 
-write-table-requires : tie.Need-write-table-requires
-write-table-requires c κs = table-of c .fits
+write-table-sheet-requires : tie.Need-write-table-sheet-requires
+write-table-sheet-requires c κs = table-of c .fits
 
 returns-2 : tie.Need-returns-2
-returns-2 c = table-printed (table-of (c .before)) refl (c .write-table .ensures)
+returns-2 c = table-printed (table-of (c .before)) refl (c .write-table-sheet .ensures)
 
 wide-requires-2 : tie.Need-wide-requires-2
 wide-requires-2 c κs = search needs
@@ -81,7 +81,7 @@ sheet-of-spec =
     read-table-requires
     enum-known-step
     enum-told
-    write-table-requires
+    write-table-sheet-requires
     returns-2
     wide-requires-2
     write-refusal-requires-2

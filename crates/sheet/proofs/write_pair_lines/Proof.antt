@@ -4,7 +4,7 @@ use Prim.Native.Nat.{_+_, _-_, _*_, _≤_, _<_}
 use mathlib.Core.Path.{refl}
 use native.Mathlib.Omega.{arith}
 use lib.ListN.{length}
-use Rattle.held.proofs.Write.{wrote-length}
+use Rattle.lent.proofs.Runs.{wrote-length}
 use Rattle.sheet.proofs.Turns.{PairsSoFar, pairs-long, pair-fits, pairs-more, pairs-done}
 use Rattle.sheet.proofs.write_pair_lines.Statement.{statement}
 use Rattle.sheet.proofs.write_pair_lines.Tie as tie
@@ -16,7 +16,7 @@ abbrev μ-loop : tie.MeasureT-loop
 μ-loop out₀ at pairs m next₀ i₀ out next i = m - i
 
 loop-holds : tie.Need-loop-holds Inv-loop μ-loop
-loop-holds c = (omega arith, λ ps L. record { behind = omega arith; bytes = refl })
+loop-holds c = (omega arith, λ ps L. record { behind = omega arith; cells = refl })
 
 abbrev start : tie.At-loop Inv-loop μ-loop → tie.Start Inv-loop μ-loop
 start c = c .before .before .before

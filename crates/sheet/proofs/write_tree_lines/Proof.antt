@@ -3,9 +3,10 @@
 use Prim.Native.Nat.{_-_, _≤_, _<_}
 use mathlib.Core.Path.{refl}
 use native.Mathlib.Omega.{arith}
-use lib.ListN.{length}
-use Rattle.held.proofs.Write.{wrote-length}
-use Rattle.sheet.proofs.Turns.{TreesSoFar, numbers-long, tree-fits, trees-more, trees-done}
+use lib.ListN.{length, getD}
+use Rattle.meaning.specs.Limits.{maxTrees}
+use Rattle.lent.proofs.Runs.{wrote-length}
+use Rattle.sheet.proofs.Turns.{TreesSoFar, numbers-long, few-linked, tree-fits, trees-more, trees-done}
 use Rattle.sheet.proofs.write_tree_lines.Statement.{statement}
 use Rattle.sheet.proofs.write_tree_lines.Tie as tie
 
@@ -16,29 +17,38 @@ abbrev μ-loop : tie.MeasureT-loop
 μ-loop out₀ at counts table n next₀ i₀ out next i = n - i
 
 loop-holds : tie.Need-loop-holds Inv-loop μ-loop
-loop-holds c = (omega arith, λ ts ps L. record { behind = omega arith; bytes = refl })
+loop-holds c = (omega arith, λ ts ps L. record { behind = omega arith; cells = refl })
 
 abbrev start : tie.At-loop Inv-loop μ-loop → tie.Start Inv-loop μ-loop
 start c = c .before .before .before
 
--- a turn's tree is one of at most 160, and its count is lent
-few-turns : (c : tie.In-loop Inv-loop μ-loop) → c .before .loop .i < 160
-few-turns c = let p = start (c .before) .pre in omega (arith, c .loop-test .taken, p .listed .holds .count, p .few)
+-- a turn's tree is one of at most 160, its count is lent, and it has fewer neighbours than there are trees
+few-turns : (c : tie.In-loop Inv-loop μ-loop) → c .before .loop .i < maxTrees
+few-turns c = let k = start (c .before) .pre .listed .keeps in omega (arith, c .loop-test .taken, k .count, k .few)
 
 count-lent : (c : tie.In-loop Inv-loop μ-loop) → c .before .loop .i < length (start (c .before) .args .counts .now)
-count-lent c = let p = start (c .before) .pre in omega (arith, c .loop-test .taken, p .listed .holds .count, numbers-long (p .listed))
+count-lent c = let L = start (c .before) .pre .listed in omega (arith, c .loop-test .taken, L .keeps .count, numbers-long L)
+
+few-counted : (c : tie.In-loop Inv-loop μ-loop) → getD (start (c .before) .args .counts .now) (c .before .loop .i) 0 < start (c .before) .args .t3 .len
+few-counted c = few-linked (start (c .before) .pre .listed) (c .before .loop .i) (c .loop-test .taken)
+
+mul-linked : tie.Need-mul-linked Inv-loop μ-loop
+mul-linked c = omega (arith, few-turns c)
+
+shared-slice-read-linked : tie.Need-shared-slice-read-linked Inv-loop μ-loop
+shared-slice-read-linked c = count-lent (c .before)
+
+cast-linked : tie.Need-cast-linked Inv-loop μ-loop
+cast-linked c = omega (arith, c .shared-slice-known2 .given (c .before .before .loop .i))
+
+sub-write-tree-line : tie.Need-sub-write-tree-line Inv-loop μ-loop
+sub-write-tree-line c = omega (arith, few-counted (c .before .before))
+
+sub-write-tree-line-2 : tie.Need-sub-write-tree-line-2 Inv-loop μ-loop
+sub-write-tree-line-2 c = omega (arith, few-counted (c .before .before))
 
 mul-write-tree-line : tie.Need-mul-write-tree-line Inv-loop μ-loop
-mul-write-tree-line c = omega (arith, few-turns (c .before))
-
-shared-slice-read-write-tree-line : tie.Need-shared-slice-read-write-tree-line Inv-loop μ-loop
-shared-slice-read-write-tree-line c = count-lent (c .before .before)
-
-cast-write-tree-line : tie.Need-cast-write-tree-line Inv-loop μ-loop
-cast-write-tree-line c = omega (arith, c .shared-slice-known2 .given (c .before .before .before .loop .i))
-
-mul-write-tree-line-2 : tie.Need-mul-write-tree-line-2 Inv-loop μ-loop
-mul-write-tree-line-2 c = omega (arith, few-turns (c .before .before))
+mul-write-tree-line c = omega (arith, few-turns (c .before .before))
 
 element-copy-out-write-tree-line : tie.Need-element-copy-out-write-tree-line Inv-loop μ-loop
 element-copy-out-write-tree-line c = omega (arith, few-turns (c .before .before))
@@ -75,10 +85,12 @@ write-tree-lines-spec =
     Inv-loop
     μ-loop
     loop-holds
+    mul-linked
+    shared-slice-read-linked
+    cast-linked
+    sub-write-tree-line
+    sub-write-tree-line-2
     mul-write-tree-line
-    shared-slice-read-write-tree-line
-    cast-write-tree-line
-    mul-write-tree-line-2
     element-copy-out-write-tree-line
     write-tree-line-requires
     add-i

@@ -1,12 +1,14 @@
--- `writing::write_node` meets its contract. The measure of the walk is the leaves below the node. Assumes nothing.
+-- `writing::write_node` meets its contract. The measure of the walk is the leaves below the node.
+-- Assumes nothing.
 use Prim.Native.Nat.{ℕ, _+_, _-_, _<_, _≤_}
 use mathlib.Core.Path.{_≡_, _∙_}
 use native.Mathlib.Omega.{arith}
 use lib.ListN.{length, getD, set, length-set}
 use Rattle.meaning.specs.Tree.{write}
-use Rattle.held.specs.Held.{Holds, Wrote, nodes}
+use Rattle.lent.specs.Runs.{Wrote}
+use Rattle.held.specs.Held.{Holds, nodes}
 use Rattle.held.proofs.Laws.{ForkAt, within, forked, first-falls, second-at, second-falls}
-use Rattle.held.proofs.Write.{wrote-length}
+use Rattle.lent.proofs.Runs.{wrote-length}
 use Rattle.writing.proofs.Laws.{leaf-room, wrote-leaf, fork-room, wrote-both}
 use borrow.Fn.Kinds.{In}
 use borrow.Fn.PlainCycle.{Measures, is, falls, and}

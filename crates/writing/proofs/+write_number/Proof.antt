@@ -1,10 +1,11 @@
--- `writing::write_number` meets its contract. The measure is the number. Assumes nothing.
+-- `writing::write_number` meets its contract. The measure is the number.
+-- Assumes nothing.
 use Prim.Native.Nat.{ℕ, _+_, _/_, _<_, _≤_}
 use native.Mathlib.Omega.{arith}
 use lib.ListN.{length, length-set}
 use Rattle.meaning.specs.Tree.{digits}
 use Rattle.meaning.proofs.Digits.{digits-some}
-use Rattle.held.proofs.Write.{wrote-length}
+use Rattle.lent.proofs.Runs.{wrote-length}
 use Rattle.writing.proofs.Laws.{wrote-digit, length-digits, wrote-digits}
 use borrow.Fn.Kinds.{In}
 use borrow.Fn.PlainCycle.{Measures, is, falls, and}

@@ -1,19 +1,20 @@
--- `writing::write_forest` meets its contract. Assumes nothing.
+-- `writing::write_forest` meets its contract.
+-- Assumes nothing.
 use borrow.Author.Needs.{needs}
 use mathlib.Core.Path.{refl}
 use native.Mathlib.Omega.{arith}
 use Rattle.meaning.proofs.Length.{leaves-64}
-use Rattle.writing.proofs.Texts.{cut-of-array, room-left, room-pruned, wrote-parts}
+use Rattle.writing.proofs.Texts.{cut-of-tree, room-left, room-pruned, wrote-parts}
 use Rattle.writing.proofs.write_forest.Statement.{statement}
 use Rattle.writing.proofs.write_forest.Tie as tie
 
 remainder-requires : tie.Need-remainder-requires
-remainder-requires c κs = cut-of-array (c .before .before .pre)
+remainder-requires c κs = cut-of-tree (c .before .before .pre)
 
 add-pruned : tie.Need-add-pruned
 add-pruned c =
     let p = c .before .before .before .before .pre in
-    omega (arith, p .is-cut, leaves-64 (p .good))
+    omega (arith, p .is-cut, leaves-64 (p .keeps .good))
 
 slice-aggregate-write-part : tie.Need-slice-aggregate-write-part
 slice-aggregate-write-part c = search needs

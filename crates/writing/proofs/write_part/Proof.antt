@@ -1,7 +1,8 @@
--- `writing::write_part` meets its contract. Assumes nothing.
+-- `writing::write_part` meets its contract.
+-- Assumes nothing.
 use borrow.Author.Needs.{needs}
 use native.Mathlib.Omega.{arith}
-use Rattle.held.proofs.Write.{wrote-one, wrote-more, wrote-length}
+use Rattle.lent.proofs.Runs.{wrote-one, wrote-more, wrote-length}
 use Rattle.writing.proofs.write_part.Statement.{statement}
 use Rattle.writing.proofs.write_part.Tie as tie
 

@@ -1,4 +1,5 @@
--- `held::Tree::canonical` meets its contract. Assumes nothing.
+-- `held::Tree::canonical` meets its contract.
+-- Assumes nothing.
 use borrow.Author.Needs.{needs}
 use Prim.Native.Nat.{_+_, _≤_}
 use native.Mathlib.Omega.{arith}
@@ -28,7 +29,7 @@ order-requires c κs =
     record { tree = p .tree; holds = p .holds; marks = noted-marks (c .before .before .before .note-smallest .ensures (p .tree) (p .holds)) room; room = room }
 
 returns : tie.Need-returns
-returns c = λ t h. c .before .order .ensures t h .bytes
+returns c = λ t h. c .before .order .ensures t h .cells
 
 pub canonical-spec : {M : Type 1} → statement M
 canonical-spec =

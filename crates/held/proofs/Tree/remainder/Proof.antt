@@ -1,4 +1,5 @@
--- `held::Tree::remainder` meets its contract. Assumes nothing.
+-- `held::Tree::remainder` meets its contract.
+-- Assumes nothing.
 use borrow.Author.Needs.{needs}
 use mathlib.Core.Path.{_≡_}
 use native.Mathlib.Omega.{arith}

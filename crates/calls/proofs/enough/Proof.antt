@@ -1,0 +1,14 @@
+-- `calls::enough` meets its contract.
+-- Assumes nothing.
+use borrow.Author.Tests.{le-leb, lt-leb}
+use Rattle.calls.proofs.enough.Statement.{statement}
+use Rattle.calls.proofs.enough.Tie as tie
+
+returns : tie.Need-returns
+returns c = rw (lt-leb (c .before .args .least) (c .before .args .len) (c .if1 .taken))
+
+returns-2 : tie.Need-returns-2
+returns-2 c = rw (le-leb (c .before .args .least) (c .before .args .len) (c .if1 .left))
+
+pub enough-spec : {M : Type 1} → statement M
+enough-spec = tie.close (tie.spec returns returns-2)

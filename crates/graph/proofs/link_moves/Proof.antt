@@ -1,0 +1,146 @@
+-- `graph::link_moves` meets its contract. The loops' invariants: the bytes of the places that are passed show which trees are one move apart.
+-- Assumes nothing.
+use mathlib.Core.Path.{_≡_}
+use mathlib.Core.List.{List}
+use Prim.Native.Nat.{ℕ, _+_, _-_, _*_, _<_}
+use native.Mathlib.Omega.{arith}
+use borrow.Author.Needs.{needs}
+use lib.ListN.{length, length-set}
+use mir.Val.{boolByte}
+use Rattle.meaning.specs.Move.{Apart}
+use Rattle.meaning.specs.Listing.{At, treeOf}
+use Rattle.held.specs.declared.Table.{Table}
+use Rattle.held.proofs.Kept.{kept-at}
+use Rattle.graph.specs.Graph.{linkBytes, OfTrees}
+use Rattle.graph.proofs.Bytes.{ShowsTo, says-byte, shows-more}
+use Rattle.graph.proofs.link_moves.Statement.{statement}
+use Rattle.graph.proofs.link_moves.Tie as tie
+
+-- the bytes of the first places show which trees are one move apart
+record LinkedTo (table : Table) (place : ℕ) (links : List ℕ) : Type 0 where
+  long : length links ≡ linkBytes
+  shown : OfTrees table (λ ts. ShowsTo place links (length ts) (At Apart ts))
+
+abbrev Inv-loop2 : tie.InvT-loop2
+Inv-loop2 links₀ table trees i j₀ links j = (i < j) × LinkedTo table (i * 160 + j) links
+
+abbrev μ-loop2 : tie.MeasureT-loop2
+μ-loop2 links₀ table trees i j₀ links j = trees - j
+
+abbrev Inv-loop : tie.InvT-loop
+Inv-loop links₀ table trees i₀ links i = LinkedTo table (i * 160) links
+
+abbrev μ-loop : tie.MeasureT-loop
+μ-loop links₀ table trees i₀ links i = trees - i
+
+-- no two trees have their byte between one place and another
+passed : {table : Table} {links : List ℕ} {place place′ : ℕ} → ((i j : ℕ) → i < j → j < table .len → i * 160 + j < place′ → i * 160 + j < place)
+    → LinkedTo table place links → LinkedTo table place′ links
+passed f l = record { long = l .long; shown = λ ts h i j lt inside before. l .shown ts h i j lt inside (f i j lt (omega (arith, h .count)) before) }
+
+-- the function's entry, from the head of the inner loop
+abbrev start : tie.At-loop2 Inv-loop2 μ-loop2 Inv-loop μ-loop → tie.Start Inv-loop2 μ-loop2 Inv-loop μ-loop
+start c = c .before .before .before
+
+loop-holds : tie.Need-loop-holds Inv-loop2 μ-loop2 Inv-loop μ-loop
+loop-holds c = record { long = c .pre .1; shown = λ ts h i j _ _ none. absurd (omega arith) }
+
+add-j : tie.Need-add-j Inv-loop2 μ-loop2 Inv-loop μ-loop
+add-j c = omega arith
+
+loop2-holds : tie.Need-loop2-holds Inv-loop2 μ-loop2 Inv-loop μ-loop
+loop2-holds c = (omega arith, passed (λ i j lt inside before. omega arith) (c .before .loop .inv))
+
+mul-one-move-apart : tie.Need-mul-one-move-apart Inv-loop2 μ-loop2 Inv-loop μ-loop
+mul-one-move-apart c = omega arith
+
+element-copy-out-one-move-apart : tie.Need-element-copy-out-one-move-apart Inv-loop2 μ-loop2 Inv-loop μ-loop
+element-copy-out-one-move-apart c = omega arith
+
+mul-one-move-apart-2 : tie.Need-mul-one-move-apart-2 Inv-loop2 μ-loop2 Inv-loop μ-loop
+mul-one-move-apart-2 c = omega arith
+
+element-copy-out-one-move-apart-2 : tie.Need-element-copy-out-one-move-apart-2 Inv-loop2 μ-loop2 Inv-loop μ-loop
+element-copy-out-one-move-apart-2 c = omega arith
+
+one-move-apart-requires : tie.Need-one-move-apart-requires Inv-loop2 μ-loop2 Inv-loop μ-loop
+one-move-apart-requires c κs =
+    let l = c .before .before .before in
+    let held = kept-at (start l .pre .0) in
+    (held _ (omega arith), held _ (omega arith))
+
+cast-links : tie.Need-cast-links Inv-loop2 μ-loop2 Inv-loop μ-loop
+cast-links c = search needs
+
+mul-links : tie.Need-mul-links Inv-loop2 μ-loop2 Inv-loop μ-loop
+mul-links c = omega arith
+
+add-links : tie.Need-add-links Inv-loop2 μ-loop2 Inv-loop μ-loop
+add-links c = omega arith
+
+element-write-links : tie.Need-element-write-links Inv-loop2 μ-loop2 Inv-loop μ-loop
+element-write-links c = omega arith
+
+add-j-2 : tie.Need-add-j-2 Inv-loop2 μ-loop2 Inv-loop μ-loop
+add-j-2 c = omega arith
+
+loop2-less : tie.Need-loop2-less Inv-loop2 μ-loop2 Inv-loop μ-loop
+loop2-less c = omega arith
+
+loop2-again : tie.Need-loop2-again Inv-loop2 μ-loop2 Inv-loop μ-loop
+loop2-again c =
+    let l = c .before .before .before .before in
+    let i = l .before .before .loop .i in
+    let j = l .loop2 .j in
+    let r = c .one-move-apart .result in
+    let last = l .loop2 .inv .1 in (
+      omega arith,
+      record {
+        long = simp length-set (last .long);
+        shown = λ ts h.
+            let column : j < length ts = omega (arith, h .count, c .before .before .before .loop2-test .taken) in
+            let row : i < length ts = omega (arith, l .loop2 .inv .0) in
+            let told = c .one-move-apart .ensures (treeOf ts i) (treeOf ts j) (h .each i row) (h .each j column) in
+            shows-more (At Apart ts) (l .loop2 .links) (length ts) i j (boolByte r) (h .few) column (omega (arith, last .long)) (says-byte r told) (last .shown ts h);
+      },
+    )
+
+add-i : tie.Need-add-i Inv-loop2 μ-loop2 Inv-loop μ-loop
+add-i c = omega arith
+
+loop-less : tie.Need-loop-less Inv-loop2 μ-loop2 Inv-loop μ-loop
+loop-less c = omega arith
+
+loop-again : tie.Need-loop-again Inv-loop2 μ-loop2 Inv-loop μ-loop
+loop-again c = passed (λ i j lt inside before. omega arith) (c .before .loop2 .inv .1)
+
+returns : tie.Need-returns Inv-loop2 μ-loop2 Inv-loop μ-loop
+returns c ts h i j lt inside = c .before .loop .inv .shown ts h i j lt inside (omega (arith, h .count))
+
+pub link-moves-spec : {M : Type 1} → statement M
+link-moves-spec =
+    tie.close
+    (tie.spec
+    Inv-loop2
+    μ-loop2
+    Inv-loop
+    μ-loop
+    loop-holds
+    add-j
+    loop2-holds
+    mul-one-move-apart
+    element-copy-out-one-move-apart
+    mul-one-move-apart-2
+    element-copy-out-one-move-apart-2
+    one-move-apart-requires
+    cast-links
+    mul-links
+    add-links
+    element-write-links
+    add-j-2
+    loop2-less
+    loop2-again
+    add-i
+    loop-less
+    loop-again
+    returns)

@@ -1,0 +1,63 @@
+// Lent memory: runs of elements copied, cleared, compared and looked through.
+ghost use mathlib.Core.Path.{_≡_};
+ghost use Prim.Native.Nat.{_+_, _≤_};
+ghost use lib.ListN.{length, take, drop, replicate};
+ghost use Rattle.meaning.specs.Lists.{member};
+ghost use Rattle.lent.specs.Runs.{Wrote, SameRun, Says};
+
+pub fn wide(x: u8) -> usize
+    ensures { λ r. ⌜ r ≡ x ⌝ }
+{
+    x as usize
+}
+
+// Copies `count` bytes of s from `from` on into `out` from `at` on; returns the place behind them.
+pub fn copy(out: &mut [u8], at: usize, s: &[u8], from: usize, count: usize) -> usize
+    requires { ⌜ (at + count ≤ length (now out)) × (from + count ≤ length (now s)) ⌝ }
+    ensures { λ r. ⌜ Wrote (take count (drop from (now (s .entry)))) (now (out .entry)) (now (out .exit)) at r ⌝ }
+{
+    let mut i = 0;
+    while i < count {
+        out[at + i] = s[from + i];
+        i += 1;
+    }
+    at + count
+}
+
+// Sets the first n numbers to 0.
+pub fn clear(numbers: &mut [u16], n: usize)
+    requires { ⌜ n ≤ length (now numbers) ⌝ }
+    ensures { λ _. ⌜ Wrote (replicate n 0) (now (numbers .entry)) (now (numbers .exit)) 0 n ⌝ }
+{
+    for at in 0..n {
+        numbers[at] = 0;
+    }
+}
+
+// Whether `count` bytes of x from i on are those of y from j on.
+pub fn same_run(x: &[u8], i: usize, y: &[u8], j: usize, count: usize) -> bool
+    requires { ⌜ (i + count ≤ length (now x)) × (j + count ≤ length (now y)) ⌝ }
+    ensures { λ r. ⌜ Says r (SameRun (now (x .entry)) i (now (y .entry)) j count) ⌝ }
+{
+    for k in 0..count {
+        if x[i + k] != y[j + k] {
+            return false;
+        }
+    }
+    true
+}
+
+// Whether v is one of the first n bytes of s.
+pub fn contains(s: &[u8], n: usize, v: usize) -> bool
+    requires { ⌜ n ≤ length (now s) ⌝ }
+    ensures { λ r. ⌜ r ≡ member v (take n (now (s .entry))) ⌝ }
+{
+    let mut i = 0;
+    while i < n {
+        if wide(s[i]) == v {
+            return true;
+        }
+        i += 1;
+    }
+    false
+}

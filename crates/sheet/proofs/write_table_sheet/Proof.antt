@@ -1,0 +1,57 @@
+-- `sheet::write_table_sheet` meets its contract.
+-- Assumes nothing.
+use Prim.Native.Nat.{ℕ}
+use native.Mathlib.Omega.{arith}
+use borrow.Author.Needs.{needs}
+use lib.ListN.{replicate, length-replicate}
+use Rattle.meaning.specs.Limits.{maxTrees, pairNumbers}
+use Rattle.graph.specs.Graph.{slices, ListRoom}
+use Rattle.sheet.proofs.Prints.{listed-fits, listed-wrote}
+use Rattle.sheet.proofs.write_table_sheet.Statement.{statement}
+use Rattle.sheet.proofs.write_table_sheet.Tie as tie
+
+-- the sizes of the arrays
+room : ListRoom (slices (replicate pairNumbers 0) (replicate maxTrees 0))
+room = record { pairs-room = omega (arith, length-replicate {A = ℕ} pairNumbers 0); counts-room = omega (arith, length-replicate {A = ℕ} maxTrees 0) }
+
+slice-aggregate-list-pairs : tie.Need-slice-aggregate-list-pairs
+slice-aggregate-list-pairs c = search needs
+
+slice-aggregate-list-pairs-2 : tie.Need-slice-aggregate-list-pairs-2
+slice-aggregate-list-pairs-2 c = search needs
+
+list-pairs-requires : tie.Need-list-pairs-requires
+list-pairs-requires c κs = search needs
+
+slice-aggregate-write-sheet : tie.Need-slice-aggregate-write-sheet
+slice-aggregate-write-sheet c = search needs
+
+slice-aggregate-write-sheet-2 : tie.Need-slice-aggregate-write-sheet-2
+slice-aggregate-write-sheet-2 c = search needs
+
+write-sheet-requires : tie.Need-write-sheet-requires
+write-sheet-requires c κs =
+    let o = c .before .before .before .before .before in
+    listed-fits room (o .list-pairs .ensures) (o .before .before .before .before .pre)
+
+same-length : tie.Need-same-length
+same-length c = search needs
+
+returns : tie.Need-returns
+returns c =
+    let w = c .before .before in
+    let o = w .before .before .before .before .before .before in
+    listed-wrote room (o .list-pairs .ensures) (w .write-sheet .ensures)
+
+pub write-table-sheet-spec : {M : Type 1} → statement M
+write-table-sheet-spec =
+    tie.close
+    (tie.spec
+    slice-aggregate-list-pairs
+    slice-aggregate-list-pairs-2
+    list-pairs-requires
+    slice-aggregate-write-sheet
+    slice-aggregate-write-sheet-2
+    write-sheet-requires
+    same-length
+    returns)
