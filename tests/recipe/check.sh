@@ -1,6 +1,117 @@
 #!/bin/sh
-# The README's recipe, from a sampler's .t file to the sheet, on a file with branch lengths and marks: check.sh LISTER
+# The recipe of the README, from samplers' files to the sheet, by tools/trees.sh and a pair lister: check.sh LISTER
+# The files are small and written to the formats of MrBayes, BEAST 1 and BEAST 2; each .sheet was worked out by hand.
 set -eu
+lister=$1
 here=$(cd "$(dirname "$0")" && pwd)
-sed -E 's/\[[^]]*\]//g; /^ *tree /!d; s/^[^=]*=//; s/:[-+0-9.eE]+//g' "$here/run.t" | "$1" | cmp - "$here/expected"
-echo "recipe: the sheet is as expected"
+trees=$here/../../tools/trees.sh
+work=$(mktemp -d)
+trap 'rm -rf "$work"' EXIT
+passed=0
+failed=0
+
+# the last case did as it should, or not
+count() {
+    if [ "$1" = yes ]; then
+        passed=$((passed + 1))
+    else
+        failed=$((failed + 1))
+        echo "recipe: trees.sh $2: $3"
+        cat "$work/errors"
+    fi
+}
+
+# gives SHEET ARGUMENT...: the trees are taken, and the lister prints this sheet
+gives() {
+    sheet=$1
+    shift
+    good=no
+    if "$trees" "$@" >"$work/trees" 2>"$work/errors" && [ ! -s "$work/errors" ]; then
+        "$lister" <"$work/trees" >"$work/sheet"
+        if cmp "$work/sheet" "$sheet" >>"$work/errors" 2>&1; then good=yes; fi
+    fi
+    count $good "$*" "not the sheet in $(basename "$sheet")"
+}
+
+# refuses WORDS ARGUMENT...: one line with these words on standard error, status 1, nothing on standard output
+refuses() {
+    words=$1
+    shift
+    good=no
+    status=0
+    "$trees" "$@" >"$work/trees" 2>"$work/errors" || status=$?
+    if [ $status -eq 1 ] && [ ! -s "$work/trees" ] && [ "$(wc -l <"$work/errors")" -eq 1 ] && grep -qF -e "$words" "$work/errors"; then
+        good=yes
+    fi
+    count $good "$*" "status $status, and not refused with '$words'"
+}
+
+# a file of the text that is read
+file() { cat >"$work/$1"; }
+
+# copies N: a file of N trees
+copies() { awk -v n="$1" 'BEGIN { while (n-- > 0) print "((1,2),3);" }' | file "copies_$1"; }
+
+gives "$here/mrbayes.sheet" "$here/mrbayes.t"
+gives "$here/beast1.sheet" "$here/beast1.trees"
+gives "$here/beast2.sheet" "$here/beast2.trees"
+gives "$here/upper.sheet" "$here/upper.nex"
+gives "$here/newick.sheet" "$here/newick.txt"
+
+gives "$here/sample.sheet" --burn-in 3 --every 3 "$here/sample.t"
+gives "$here/sample.sheet" --every 3 --burn-in 35% "$here/sample.t"
+gives "$here/two_samples.sheet" --burn-in 80% "$here/sample.t" "$here/sample.t"
+grep gen "$here/sample.t" | tail -n 2 | file last_lines
+gives "$here/two_samples.sheet" "$work/last_lines" "$work/last_lines"
+refuses 'no trees are left' --burn-in 10 "$here/sample.t"
+refuses 'no trees are left' --burn-in 100% "$here/sample.t"
+
+copies 160
+copies 161
+awk 'BEGIN { print "trees 160 pairs 0"; for (i = 0; i < 160; i++) print "tree " i " neighbours 0 unlinked 159 ((1,2),3);" }' | file copies.sheet
+gives "$work/copies.sheet" "$work/copies_160"
+gives "$work/copies.sheet" --burn-in 1 "$work/copies_161"
+refuses '161 trees, and a sheet has 160 at most; --every 2 leaves 81' "$work/copies_161"
+refuses '321 trees, and a sheet has 160 at most; --every 3 leaves 108' "$work/copies_160" "$work/copies_161"
+
+refuses 'tree 1 is unrooted' "$here/mrbayes_unrooted.t"
+echo '[&u] ((1,2),3);' | file lower
+refuses 'tree 1 is unrooted' "$work/lower"
+echo 'utree x = ((1,2),3);' | file utree
+refuses 'tree 1 is unrooted' "$work/utree"
+refuses 'tree 1 has "Homo_sapiens"; taxa have to be numbers' "$here/names.trees"
+refuses 'tree 2 has "Homo_sapiens"; taxa have to be numbers, as the translate block gives them' "$here/names_translated.nex"
+sed 's/3 gorilla/4 gorilla/' "$here/beast1.trees" | file untranslated
+refuses 'tree 1 has 3, which the translate block does not have' "$work/untranslated"
+refuses '1 is human here, and Homo_sapiens before' "$here/mrbayes.t" "$here/beast1.trees"
+printf '(1,2);\n(1,2,3);\n' | file three
+refuses 'tree 2 is not binary' "$work/three"
+echo '((1,2)95:0.1,3);' | file support
+refuses 'tree 1 is not binary, or has a label at an inner node' "$work/support"
+echo '(1[&x]2,3);' | file joined
+refuses 'tree 1 has "1 2"' "$work/joined"
+echo '(1:nan,2);' | file nan
+refuses 'tree 1 has "1:nan"' "$work/nan"
+
+refuses 'has no trees' "$here/no_trees.nex"
+: | file empty
+refuses 'has no trees' "$work/empty"
+refuses 'has no trees' "$here/mrbayes.t" "$work/empty"
+printf '(1,2);\n((1,' | file cut_off
+refuses 'ends without a `;`' "$work/cut_off"
+printf '(1,2);\n[no end' | file comment
+refuses 'a comment has no end' "$work/comment"
+printf 'Iteration\tPosterior\tphylogeny\n0\t-34.5\t((1,2),3);\n' | file log
+refuses 'neither NEXUS nor Newick' "$work/log"
+refuses 'cannot be read' "$work/missing"
+refuses 'cannot be read' "$work"
+refuses 'no file' --every 2
+refuses 'no such option' --most 160 "$here/sample.t"
+refuses 'options stand before the files' "$here/sample.t" --every 2
+refuses '--every needs' --every 0 "$here/sample.t"
+refuses '--every needs' --every
+refuses '--burn-in needs' --burn-in x "$here/sample.t"
+refuses '--burn-in needs' --burn-in % "$here/sample.t"
+
+echo "recipe: $passed cases as expected, $failed not"
+[ $failed -eq 0 ]
