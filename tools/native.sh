@@ -4,6 +4,7 @@
 # first: nothing unproved is built.
 set -euo pipefail
 [ $# -eq 2 ] || { echo "usage: $0 CRATE OUT" >&2; exit 2; }
+command -v rt >/dev/null || { echo "rt: command not found; the Rattle kit is needed" >&2; exit 127; }
 crate=$1
 mkdir -p "$(dirname "$2")"
 out=$(cd "$(dirname "$2")" && pwd -P)/$(basename "$2")
