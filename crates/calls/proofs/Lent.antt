@@ -12,11 +12,12 @@ use Rattle.meaning.specs.Reading.{Read}
 use Rattle.meaning.specs.Answer.{Answer, accepted, refusal, Outcome, conclude}
 use Rattle.meaning.specs.Calls.{lent, limited, answered}
 use Rattle.meaning.proofs.Logic.{clash}
-use Rattle.reading.specs.Whole.{StepMeets, goes-on, refuses}
+use Rattle.reading.specs.Paper.{stepAnswer, StepMeets, goes-on, refuses}
 use Rattle.reading.specs.declared.Refusal.{Refusal}
 use Rattle.reading.specs.declared.Step.{Step}
 use Rattle.reading.specs.declared.Step.the-variants.{Next, Refused as StepRefused}
-use Rattle.calls.specs.Lent.{refusedStep, withheld, LentMeets, accepts, denies}
+use Rattle.reading.proofs.Steps.{going-is}
+use Rattle.calls.specs.Lent.{withheld, LentMeets, accepts, denies}
 use Rattle.calls.specs.Paper.{refusalOf}
 
 -- what was accepted
@@ -34,8 +35,8 @@ module _ {A : Type 0} {size : A → ℕ} {Keep : A → Type 0} {step : Step} whe
 
   -- a text that is refused for its length, or read
   module _ (g : Read A) (n : ℕ) where
-    long-refused : (long : Bool) → n ≡ cond long 8 0 → (n ≡ 0 → ⊥) → step ≡ refusedStep n 0 0 → LentMeets size Keep step (cond long (refusal 8 0 0) (answered 0 g))
-    long-refused true e h told = denies 8 0 0 (told ∙ ap (λ (m : ℕ). refusedStep m 0 0) e)
+    long-refused : (long : Bool) → n ≡ cond long 8 0 → (n ≡ 0 → ⊥) → stepAnswer step ≡ refusal n 0 0 → LentMeets size Keep step (cond long (refusal 8 0 0) (answered 0 g))
+    long-refused true e h told = denies 8 0 0 (told ∙ ap (λ (m : ℕ). refusal m 0 0) e)
     long-refused false e h told = absurd (h e)
 
     short-read : (long : Bool) → n ≡ cond long 8 0 → n ≡ 0 → StepMeets size Keep step g → LentMeets size Keep step (cond long (refusal 8 0 0) (answered 0 g))
@@ -44,8 +45,8 @@ module _ {A : Type 0} {size : A → ℕ} {Keep : A → Type 0} {step : Step} whe
 
   -- what a call is given that reads nothing of its text, and one that reads it
   module _ (s : List ℕ) (g : Read A) (n : ℕ) where
-    pub lent-withheld : (b : Bool) → n ≡ withheld b (length s) → (n ≡ 0 → ⊥) → step ≡ refusedStep n 0 0 → LentMeets size Keep step (lent b (limited 0 s (answered 0 g)))
-    lent-withheld false e h told = denies 7 0 0 (told ∙ ap (λ (m : ℕ). refusedStep m 0 0) e)
+    pub lent-withheld : (b : Bool) → n ≡ withheld b (length s) → (n ≡ 0 → ⊥) → stepAnswer step ≡ refusal n 0 0 → LentMeets size Keep step (lent b (limited 0 s (answered 0 g)))
+    lent-withheld false e h told = denies 7 0 0 (told ∙ ap (λ (m : ℕ). refusal m 0 0) e)
     lent-withheld true e h told = long-refused g n (ltb textBytes (length s)) e h told
 
     pub lent-read : (b : Bool) → n ≡ withheld b (length s) → n ≡ 0 → StepMeets size Keep step g → LentMeets size Keep step (lent b (limited 0 s (answered 0 g)))
@@ -54,13 +55,13 @@ module _ {A : Type 0} {size : A → ℕ} {Keep : A → Type 0} {step : Step} whe
 
   -- the step goes on with what was accepted
   pub lent-next : {a : Answer A} {p k : ℕ} → LentMeets size Keep step a → step ≡ Next p k → Given size Keep a k
-  lent-next {k} (accepts x q h w) e = let y : size x ≡ k = cc in record { value = x; is = refl; count = sym y; keeps = w }
+  lent-next (accepts x q h w) e = record { value = x; is = refl; count = going-is (sym (ap stepAnswer e) ∙ h) .1; keeps = w }
   lent-next (denies n i q h) e = clash cc
 
   -- or it refuses
   pub lent-refused : {a : Answer A} {x : Refusal} → LentMeets size Keep step a → step ≡ StepRefused x → a ≡ refusalOf x
   lent-refused (accepts y q h w) e = clash cc
-  lent-refused {x} (denies n i q h) e = let z : record { number = n; text = i; place = q } ≡ x = cc in ap (λ (y : Refusal). refusal (y .number) (y .text) (y .place)) z
+  lent-refused (denies n i q h) e = cc
 
   -- a call measures its slices as its definition does
   pub measured : (a : Answer A) {b c : Bool} → b ≡ c → LentMeets size Keep step (lent b a) → LentMeets size Keep step (lent c a)

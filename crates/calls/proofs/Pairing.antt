@@ -20,7 +20,7 @@ use Rattle.reading.specs.Whole.{TreeMeets}
 use Rattle.reading.specs.declared.Refusal.{Refusal}
 use Rattle.reading.specs.declared.TreeRead.{TreeRead}
 use Rattle.reading.specs.declared.Step.the-variants.{Next, Refused as StepRefused}
-use Rattle.reading.proofs.Steps.{Accepts, step-next, step-denied, refusal-is}
+use Rattle.reading.proofs.Steps.{Accepts, step-next, step-denied}
 use Rattle.calls.specs.Paired.{Answers, is-apart, not-apart, refuses}
 use Rattle.calls.specs.Paper.{refusalOf}
 
@@ -70,9 +70,7 @@ module _ (s : List ℕ) {r : TreeRead} (m : TreeMeets r (readTree s)) where
     second-read t w = answers (ap (beside t) (one .is)) (w (one .value) (one .keeps))
 
   pub second-refused : (t : Topology) {x y : Refusal} → r .step ≡ StepRefused x → y ≡ record { number = x .number; text = 1; place = x .place } → Answers (beside t (readTree s)) (refusalOf y)
-  second-refused t e f =
-      let D = step-denied m e in
-      refused-as (ap (beside t) (D .is) ∙ ap (λ (w : Refusal). refusal (w .number) 1 (w .place)) (refusal-is (sym (D .told) ∙ e)) ∙ ap refusalOf (sym f))
+  second-refused t e f = refused-as (ap (beside t) (step-denied m e .0) ∙ ap refusalOf (sym f))
 
 -- ---- the call
 answered-by : {s s′ : List ℕ} {a : Answer ((t : Topology) × Topology)} {b : Answer Bool} → pairRead s s′ ≡ a → Answers a b → PairCall s s′ b
@@ -99,9 +97,9 @@ module _ (s s′ : List ℕ) where
 
     module _ {r : TreeRead} (m : TreeMeets r (readTree s)) where
       pub pair-refused : {x : Refusal} → r .step ≡ StepRefused x → PairCall s s′ (refusalOf x)
-      pair-refused e =
+      pair-refused {x} e =
           let D = step-denied m e in
-          pair-call s s′ (refused-as (first-denied (D .is) ∙ ap refusalOf (refusal-is (sym (D .told) ∙ e))))
+          pair-call s s′ (refused-as (first-denied (D .0) ∙ ap (λ (i : ℕ). refusal (x .number) i (x .place)) (sym (D .1))))
 
       pub pair-read : {p j : ℕ} {b : Answer Bool} → r .step ≡ Next p j → ((t : Topology) → Keeps (r .tree) t → Answers (beside t (readTree s′)) b) → PairCall s s′ b
       pair-read e w = let one = step-next m e in pair-call s s′ (answers (first-got (one .is)) (w (one .value) (one .keeps)))

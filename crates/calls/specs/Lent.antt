@@ -14,24 +14,20 @@ use Rattle.meaning.specs.Calls.{hasCut}
 use Rattle.held.specs.Held.{nodes}
 use Rattle.held.specs.Kept.{Keeps, KeepsAll}
 use Rattle.held.specs.declared.Tree.{Tree}
+use Rattle.reading.specs.Paper.{goesOn, stepAnswer}
 use Rattle.reading.specs.declared.Step.{Step}
-use Rattle.reading.specs.declared.Step.the-variants.{Next, Refused}
 use Rattle.reading.specs.declared.TreeRead.{TreeRead}
 use Rattle.reading.specs.declared.tables.TableRead.{TableRead}
-
--- the step that refuses
-abbrev pub refusedStep : ℕ → ℕ → ℕ → Step
-refusedStep n i p = Refused (record { number = n; text = i; place = p })
 
 -- the line for which a call reads nothing of a text of so many bytes: 7 where it is not lent enough, 8 where the text is too long; 0 where it reads
 abbrev pub withheld : Bool → ℕ → ℕ
 withheld false bytes = 7
 withheld true bytes = cond (ltb textBytes bytes) 8 0
 
--- what was accepted is kept, and the step has its size beside the place; a refusal is the answer
+-- what was accepted is kept, and the step's answer has its size beside the place; a refusal is the answer
 pub data LentMeets {A : Type 0} (size : A → ℕ) (Keep : A → Type 0) (step : Step) : Answer A → Type 0 where
-  accepts : (x : A) (p : ℕ) → step ≡ Next p (size x) → Keep x → LentMeets size Keep step (accepted x)
-  denies : (n i p : ℕ) → step ≡ refusedStep n i p → LentMeets size Keep step (refusal n i p)
+  accepts : (x : A) (p : ℕ) → stepAnswer step ≡ goesOn p (size x) → Keep x → LentMeets size Keep step (accepted x)
+  denies : (n i p : ℕ) → stepAnswer step ≡ refusal n i p → LentMeets size Keep step (refusal n i p)
 
 -- of a tree, its nodes
 abbrev pub TreeLent : TreeRead → Answer Topology → Type 0

@@ -17,7 +17,7 @@ ghost use Rattle.held.specs.Held.{nodes};
 ghost use Rattle.held.specs.Kept.{Keeps, Kept};
 ghost use Rattle.graph.specs.Graph.{slices};
 ghost use Rattle.calls.specs.Paper.{textOutcome, pairAnswer, tableOutcome, graphOutcome};
-ghost use Rattle.calls.specs.Lent.{refusedStep, withheld, TreeLent, TableLent, CutRoom, cutText};
+ghost use Rattle.calls.specs.Lent.{withheld, TreeLent, TableLent, CutRoom, cutText};
 ghost use Rattle.calls.specs.Paired.{Answers};
 ghost use Rattle.calls.specs.Tabled.{textSlices, TableRoom, TableWritten};
 
@@ -48,13 +48,6 @@ fn enough(least: usize, len: usize, others: bool) -> bool
     others
 }
 
-// The step that refuses before the text is read.
-fn refuse(number: u8) -> Step
-    ensures { λ r. ⌜ r ≡ refusedStep number 0 0 ⌝ }
-{
-    Step::Refused(refusal_at_zero(number, 0))
-}
-
 // The line for which a call reads nothing of s: its slices are too short, or s is too long. 0 where it reads.
 fn withheld(s: &[u8], fits: bool) -> u8
     ensures { λ r. ⌜ r ≡ withheld fits (length (now (s .entry))) ⌝ }
@@ -75,7 +68,7 @@ fn read_lent(s: &[u8], fits: bool) -> TreeRead
     let line = withheld(s, fits);
     if line != 0 {
         return TreeRead {
-            step: refuse(line),
+            step: reading::refuse(line, 0),
             tree: Tree::empty(),
         };
     }
@@ -199,7 +192,7 @@ fn read_lent_table(s: &[u8], fits: bool) -> TableRead
     let line = withheld(s, fits);
     if line != 0 {
         return TableRead {
-            step: refuse(line),
+            step: reading::refuse(line, 0),
             table: Table::empty(),
         };
     }

@@ -28,8 +28,8 @@ impl Tree {
     // Brackets that are open at once: 64 leaves never need more.
     pub const MAX_OPEN: usize = (Tree::MAX_LABEL as usize) - 1;
 
-    // Nodes of a text that may yet be refused: 64 labels, 63 forks that are closed and 64 that are not.
-    pub const MAX_DRAFT: usize = Tree::MAX_OPEN + 2 * (Tree::MAX_LABEL as usize);
+    // Nodes of a text that may yet be refused: 64 labels, 63 forks that are closed and 63 that are open.
+    pub const MAX_DRAFT: usize = Tree::MAX_NODES + Tree::MAX_OPEN;
 
     // A fork's byte is this and the leaves below it.
     pub const FORK: u8 = Tree::MAX_LABEL;

@@ -3,14 +3,15 @@
 use mathlib.Core.Path.{_≡_, refl, sym}
 use mathlib.Core.Logic.{_↔_}
 use mathlib.Core.Bool.{true, cond}
-use mathlib.Core.List.{List, [], _∷_, _++_, List·Memᴰ, List·Memᴰ·head}
-use Prim.Native.Nat.{ℕ, suc}
+use mathlib.Core.List.{List, [], _∷_, _++_, List·Memᴰ, List·Memᴰ·head, List·Memᴰ·eq-of-singleton}
+use Prim.Native.Nat.{ℕ, suc, zero}
 use native.Mathlib.Omega.{arith}
 use Rattle.meaning.specs.Lists.{within}
 use Rattle.meaning.specs.Tree.{Tree, labels, _⊆_, SameClade}
 use Rattle.meaning.specs.Reading.{sameLabels, unlike, likeFirst}
 use Rattle.meaning.specs.Refusals.{unlikeRefusals}
 use Rattle.meaning.specs.Grammar.{Alike, AllAlike}
+use Rattle.meaning.specs.Prefix.{LikeFirst}
 use Rattle.meaning.proofs.Labels.{in-labels, labels-in}
 use Rattle.meaning.proofs.Lists.{within-all, all-within}
 use Rattle.meaning.proofs.Logic.{and-left, and-right, cases, clash}
@@ -44,6 +45,20 @@ unlike-line t u {n} e =
 pub first-line : (ts : List Tree) (t : Tree) {n : ℕ} → likeFirst ts t ≡ suc n → List·Memᴰ (suc n) unlikeRefusals
 first-line [] t e = absurd (omega arith)
 first-line (first ∷ ts) t e = unlike-line first t e
+
+-- so it is for the first of trees
+pub like-first-iff : (ts : List Tree) (t : Tree) → (likeFirst ts t ≡ 0) ↔ LikeFirst ts t
+unfolding LikeFirst
+like-first-iff [] t = (λ e. tt, λ h. refl)
+like-first-iff (first ∷ ts) t = unlike-iff first t
+
+-- and the line is 5 where they differ
+pub unlike-five : (ts : List Tree) (t : Tree) → (LikeFirst ts t → ⊥) → likeFirst ts t ≡ 5
+unlike-five ts t f = by (likeFirst ts t) refl
+  where
+    by : (n : ℕ) → likeFirst ts t ≡ n → n ≡ 5
+    by zero e = absurd (f (like-first-iff ts t .0 e))
+    by (suc n) e = List·Memᴰ·eq-of-singleton (first-line ts t e)
 
 -- the trees us, behind the trees ts, have the label set of the first of all
 abbrev pub Like : List Tree → List Tree → Type 0

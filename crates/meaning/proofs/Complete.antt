@@ -48,7 +48,7 @@ value-all v (b ∷ w) y a h = rw (a .0) (value-all (v * 10 + (b - 48)) w y (a .1
 
 -- a token of the grammar is found behind its blanks, and read
 module _ {b : ℕ} {x : List ℕ} (T : TokenText b x) (s : List ℕ) (p : ℕ) (rest : List ℕ) (no-blank : isBlank b ≡ false) (here : drop p s ≡ x ++ rest) where
-  token-found : (byteAt s (skip s p) ≡ b) × (skip s p + 1 ≡ p + length x)
+  pub token-found : (byteAt s (skip s p) ≡ b) × (skip s p + 1 ≡ p + length x)
   token-found = by T here
     where
       by : {x : List ℕ} → TokenText b x → drop p s ≡ x ++ rest → (byteAt s (skip s p) ≡ b) × (skip s p + 1 ≡ p + length x)
@@ -57,11 +57,11 @@ module _ {b : ℕ} {x : List ℕ} (T : TokenText b x) (s : List ℕ) (p : ℕ) (
           let q : skip s p ≡ p + length w = past-all isBlank s p w (b ∷ rest) blank no-blank h in
           (rw q (at-byte s (p + length w) (b ∷ rest) (at-next s p w (b ∷ rest) h)), rw (q, length-append) (omega arith))
 
-  token-read : {A : Type 0} (next : ℕ → Read A) → token b s p next ≡ next (p + length x)
+  pub token-read : {A : Type 0} (next : ℕ → Read A) → token b s p next ≡ next (p + length x)
   token-read next = token-yes b s p next (token-found .0) ∙ ap next (token-found .1)
 
 -- no digit stands where a token that is none stands, behind blanks or not
-token-no-digit : {b : ℕ} {x : List ℕ} → TokenText b x → (y : List ℕ) → isDigit b ≡ false → isDigit (getD (x ++ y) 0 0) ≡ false
+pub token-no-digit : {b : ℕ} {x : List ℕ} → TokenText b x → (y : List ℕ) → isDigit b ≡ false → isDigit (getD (x ++ y) 0 0) ≡ false
 unfolding All
 token-no-digit (behind [] blank) y h = h
 token-no-digit (behind (c ∷ w) blank) y h = blank-no-digit c (blank .0)
@@ -157,22 +157,22 @@ new-second a b seen G N l i =
     member-append l seen (labels a)
     ∙ rw (N l (In.second i)) (cases (λ d. d ≡ false) (member l (labels a)) (λ e. absurd (G .distinct .2 l (labels-in a (member-in l (labels a) e)) i)) (λ e. refl))
 
--- a node text is read, where enough brackets may open, no label was seen and no digit follows
-pub complete : {t : Tree} {x : List ℕ} → NodeText t x → (room : ℕ) (s : List ℕ) (p : ℕ) (seen rest : List ℕ) → depth t ≤ room → Good t → New t seen → isDigit (getD rest 0 0) ≡ false → drop p s ≡ x ++ rest
+-- a node text is read, where enough brackets may open, no label was seen and no digit follows a label
+pub complete : {t : Tree} {x : List ℕ} → NodeText t x → (room : ℕ) (s : List ℕ) (p : ℕ) (seen rest : List ℕ) → depth t ≤ room → Good t → New t seen → ((v : ℕ) → t ≡ leaf v → isDigit (getD rest 0 0) ≡ false) → drop p s ≡ x ++ rest
     → readNode room s p seen ≡ got t (p + length x)
 unfolding depth isDigit
-complete (is-label w blank R) room s p seen rest d G N stop here = label-read R w blank s p rest stop here room seen N
+complete (is-label {v} w blank R) room s p seen rest d G N stop here = label-read R w blank s p rest (stop v refl) here room seen N
 complete (is-fork {a} {b} {o} {x} {c} {y} {z} O A C B Z) room s p seen rest d G N stop here =
     node-read o x c y z O C Z s p rest here a b seen room (omega arith)
-    (complete A (room - 1) s _ seen _ (omega arith) (good-first G) (λ l i. N l (In.first i)) (token-no-digit C _ refl) (here₁ o x c y z O C Z s p rest here))
-    (complete B (room - 1) s _ (seen ++ labels a) _ (omega arith) (good-second G) (new-second a b seen G N) (token-no-digit Z rest refl) (here₃ o x c y z O C Z s p rest here))
+    (complete A (room - 1) s _ seen _ (omega arith) (good-first G) (λ l i. N l (In.first i)) (λ v e. token-no-digit C _ refl) (here₁ o x c y z O C Z s p rest here))
+    (complete B (room - 1) s _ (seen ++ labels a) _ (omega arith) (good-second G) (new-second a b seen G N) (λ v e. token-no-digit Z rest refl) (here₃ o x c y z O C Z s p rest here))
 
 -- a tree text is read, up to the place behind its `;`
 pub tree-complete : {t : Tree} {x : List ℕ} → TreeText t x → (s : List ℕ) (p : ℕ) (rest : List ℕ) → drop p s ≡ x ++ rest → treeAt s p ≡ got t (p + length x)
 unfolding treeAt isBlank isDigit member
 tree-complete (is-tree {x} {y} N S G d) s p rest here =
     let h : drop p s ≡ x ++ (y ++ rest) = here ∙ append-assoc x y rest in
-    rw (complete N maxOpen s p [] (y ++ rest) d G (λ l i. refl) (token-no-digit S rest refl) h) (token-read S s (p + length x) rest refl (at-next s p x (y ++ rest) h) _ ∙ rw (length-append, add-assoc))
+    rw (complete N maxOpen s p [] (y ++ rest) d G (λ l i. refl) (λ v e. token-no-digit S rest refl) h) (token-read S s (p + length x) rest refl (at-next s p x (y ++ rest) h) _ ∙ rw (length-append, add-assoc))
 
 -- where only blanks are left, they are skipped to the end
 pub blanks-end : (s : List ℕ) (p : ℕ) (w : List ℕ) → All isBlank w → drop p s ≡ w → skip s p ≡ p + length w

@@ -1,4 +1,5 @@
 pub mod Alike
+pub mod Before
 pub mod Calls
 pub mod Canon
 pub mod Complete
@@ -11,6 +12,7 @@ pub mod Forests
 pub mod Labels
 pub mod Length
 pub mod Lent
+pub mod Lines
 pub mod Listing
 pub mod Lists
 pub mod Logic
@@ -20,12 +22,15 @@ pub mod Memory
 pub mod Moves
 pub mod Order
 pub mod Places
+pub mod Reaches
 pub mod Round
 pub mod Same
 pub mod Samples
 pub mod Scan
 pub mod Sound
+pub mod Stable
 pub mod Sums
+pub mod TableLines
 pub mod TableText
 pub mod Text
 pub mod Ways

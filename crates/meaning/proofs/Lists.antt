@@ -1,17 +1,18 @@
 -- Laws of lists: members and their numbers, tests, and numbers that occur once.
 -- Assumes nothing.
-use mathlib.Core.Path.{_≡_, refl, sym, ap, subst, _∙_}
+use mathlib.Core.Path.{_≡_, refl, sym, ap, ap₂, subst, _∙_}
 use mathlib.Core.Logic.{_↔_, _⊎_, inl, inr}
 use mathlib.Core.Bool.{Bool, true, false, not, _||_, or-assoc, or-true}
 use mathlib.Core.List.{List, [], _∷_, _++_, map, List·Memᴰ, List·Memᴰ·head, List·Memᴰ·tail, List·Memᴰ·not-nil, Memᴰ·append-left, Memᴰ·append-right, List·Memᴰ·append-cases, Memᴰ·cast}
 use Prim.Native.Nat.{ℕ, zero, suc, _+_, _<_, _≤_}
+use native.Mathlib.Nat.{zero-add, suc-add}
 use native.Mathlib.Numerals.{add-one}
 use native.Mathlib.Omega.{arith}
 use borrow.Author.Tests.{eqb-true, eq-eqb, ne-eqb}
 use lib.Dec.{T, T-not, not-T, eqb, eqb→eq, eqb-refl}
 use lib.ListN.{length, drop, take, getD, drop-of-length-le}
-use lib.Seq.{drop-cons, getD-take, length-take-le}
-use Rattle.meaning.specs.Lists.{any, every, member, within, NoDup, noDup?}
+use lib.Seq.{drop-cons, getD-take, length-take-le, take-nil}
+use Rattle.meaning.specs.Lists.{eqList, any, every, member, within, NoDup, noDup?}
 use Rattle.meaning.proofs.Logic.{clash, T-and, T-left, T-right, and-left, and-right, cases}
 
 -- a member has a number below the length, and each such number has a member
@@ -29,6 +30,12 @@ pub getD-map : {A B : Type 0} (f : A → B) (l : List A) (k : ℕ) (d : A) (e : 
 getD-map f [] k d e h = absurd (omega arith)
 getD-map f (x ∷ l) zero d e h = refl
 getD-map f (x ∷ l) (suc k) d e h = getD-map f l k d e (omega arith)
+
+-- what the first p + n of a list have behind the first p
+pub drop-take : {A : Type 0} (p n : ℕ) (l : List A) → drop p (take (p + n) l) ≡ take n (drop p l)
+drop-take zero n l = ap (λ (k : ℕ). take k l) (zero-add n)
+drop-take (suc p) n [] = ap (drop (suc p)) (take-nil (suc p + n)) ∙ sym (take-nil n)
+drop-take (suc p) n (x ∷ l) = ap (λ (k : ℕ). drop (suc p) (take k (x ∷ l))) (suc-add p n) ∙ drop-take p n l
 
 -- a test that passes at a member, or at all
 pub any-mem : {A : Type 0} (p : A → Bool) (l : List A) → T (any p l) → (x : A) × List·Memᴰ x l × T (p x)
@@ -130,4 +137,15 @@ noDup-iff (x ∷ l) =
     let b = any (eqb x) l in (
       λ t. let (f, g) = T-and (not b) (noDup? l) .0 t in (λ m. T-not b f (mem-any (eqb x) m (eqb-refl x)), noDup-iff l .0 g),
       λ n. T-and (not b) (noDup? l) .1 (not-T b (λ t. let (y, m, e) = any-mem (eqb x) l t in n .0 (Memᴰ·cast (eqb→eq x y e) m)), noDup-iff l .1 (n .1)),
+    )
+
+-- the test of two lists
+pub eqList-iff : (xs ys : List ℕ) → T (eqList xs ys) ↔ (xs ≡ ys)
+eqList-iff [] [] = (λ _. refl, λ _. tt)
+eqList-iff [] (y ∷ ys) = (λ t. absurd t, λ e. clash cc)
+eqList-iff (x ∷ xs) [] = (λ t. absurd t, λ e. clash cc)
+eqList-iff (x ∷ xs) (y ∷ ys) =
+    let rest = eqList-iff xs ys in (
+      λ t. let (h, k) = T-and (eqb x y) (eqList xs ys) .0 t in ap₂ _∷_ (eqb→eq x y h) (rest .0 k),
+      λ e. T-and (eqb x y) (eqList xs ys) .1 (let z : x ≡ y = cc in rw z (eqb-refl y), rest .1 (cc)),
     )

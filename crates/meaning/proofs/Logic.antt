@@ -16,6 +16,10 @@ pub cases : (P : Bool → Type 0) (d : Bool) → (d ≡ true → P true) → (d 
 cases P true f g = f refl
 cases P false f g = g refl
 
+-- one thing exactly when another, and that exactly when a third
+pub iff-then : {A B C : Type 0} → A ↔ B → B ↔ C → A ↔ C
+iff-then f g = (λ a. g .0 (f .0 a), λ c. f .1 (g .1 c))
+
 -- tests that pass together
 pub T-and : (a b : Bool) → T (a && b) ↔ (T a × T b)
 T-and true b = (λ t. (tt, t), λ t. t .1)

@@ -9,10 +9,12 @@ use borrow.Author.Tests.{le-ltb}
 use lib.ListN.{length}
 use Rattle.meaning.specs.Limits.{textBytes, formBytes, forestBytes, maxTrees, tableBytes, pairNumbers}
 use Rattle.meaning.specs.Tree.{Tree, leaves}
-use Rattle.meaning.specs.Reading.{got, refused, byteAt, value, badLabel, labelAt, readTree, sameLabels, tableFrom}
+use Rattle.meaning.specs.Reading.{got, refused, byteAt, value, badLabel, labelAt, treeAt, readTree, sameLabels, tableFrom}
+use Rattle.meaning.specs.Prefix.{TooDeepAt}
 use Rattle.meaning.specs.Answer.{Answer, refusal, TableMemory, GraphMemory, onward, conclude}
 use Rattle.meaning.specs.Calls.{answered, formSlices, formRead, hasCut, cutSlices, cutRead, beside, pairRead, tableRead, tableSlices, tableOf, tableCall, graphSlices, graphRead}
 use Rattle.meaning.proofs.Lent.{seven, ample, eight, in-limit}
+use Rattle.meaning.proofs.Lines.{line-four-iff}
 use Rattle.meaning.proofs.Ways.{label-bad, table-full}
 
 -- 7 goes before all others, whatever the text: a slice shorter than stated
@@ -76,6 +78,10 @@ module _ (s out : List ℕ) (room : forestBytes ≤ length out) (fits : length s
 -- for one label, 2 goes before 3
 pub two-before-three : (s : List ℕ) (q : ℕ) (seen : List ℕ) → badLabel (byteAt s q) (value s q) ≡ true → labelAt s q seen ≡ refused 2 q
 two-before-three s q seen h = label-bad s q seen h
+
+-- a bracket that opens where allowed while 63 are open is 4, whatever follows
+pub four-whatever-follows : (s : List ℕ) (p q : ℕ) → TooDeepAt s p q → treeAt s p ≡ refused 4 q
+four-whatever-follows s p q h = line-four-iff s p q .1 h
 
 -- behind 160 trees any byte is 6, before it could be 1
 pub six-before-one : (s : List ℕ) (q : ℕ) (ts : List Tree) → q < length s → tableFrom 0 s q ts ≡ refused 6 q

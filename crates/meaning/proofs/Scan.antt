@@ -6,6 +6,7 @@ use mathlib.Core.List.{List, [], _∷_}
 use Prim.Native.Nat.{ℕ, zero, suc, _+_, _-_, _*_, _<_, _≤_, min}
 use native.Mathlib.Nat.{add-zero}
 use native.Mathlib.Numerals.{add-one}
+use native.Mathlib.Decide.{decLe}
 use native.Mathlib.Omega.{arith}
 use borrow.Author.Tests.{leb-true, eq-eqb, ne-eqb}
 use lib.Dec.{leb, eqb}
@@ -13,7 +14,7 @@ use lib.ListN.{length, drop, getD, drop-of-length-le, length-drop}
 use lib.Seq.{drop-cons, drop-drop, getD-drop}
 use Rattle.meaning.specs.Limits.{maxLabel}
 use Rattle.meaning.specs.Reading.{isBlank, isDigit, lead, past, valueAfter}
-use Rattle.meaning.proofs.Logic.{and-left, and-right, cases}
+use Rattle.meaning.proofs.Logic.{and-left, and-right, cases, clash}
 
 -- a place where something other than 0 stands is in the text
 pub inside : (s : List ℕ) (p : ℕ) {b : ℕ} → getD s p 0 ≡ b → 0 < b → p < length s
@@ -28,6 +29,17 @@ module _ (test : ℕ → Bool) where
   unfolding lead
   lead-le [] = omega arith
   lead-le (b ∷ s) = cases (λ d. cond d (suc (lead test s)) 0 ≤ suc (length s)) (test b) (λ _. omega (arith, lead-le s)) (λ _. omega arith)
+
+  -- each byte of a run passes the test
+  lead-run : (s : List ℕ) (i : ℕ) → i < lead test s → test (getD s i 0) ≡ true
+  unfolding lead
+  lead-run [] i h = absurd (omega arith)
+  lead-run (b ∷ s) i h = by (test b) refl i h (lead-run s)
+    where
+      by : (d : Bool) → test b ≡ d → (i : ℕ) → i < cond d (suc (lead test s)) 0 → ((i : ℕ) → i < lead test s → test (getD s i 0) ≡ true) → test (getD (b ∷ s) i 0) ≡ true
+      by true e zero h f = e
+      by true e (suc i) h f = f i (omega arith)
+      by false e i h f = absurd (omega arith)
 
   -- behind a run no other run begins
   pub lead-rest : (s : List ℕ) → lead test (drop (lead test s) s) ≡ 0
@@ -65,6 +77,12 @@ module _ (test : ℕ → Bool) (s : List ℕ) (p : ℕ) where
   unfolding past
   skip-le h = omega (arith, lead-le test (drop p s), length-drop p s)
 
+  pub past-run : (i : ℕ) → p ≤ i → i < past test s p → test (getD s i 0) ≡ true
+  unfolding past
+  past-run i l h =
+      let e : p + (i - p) ≡ i = omega arith in
+      ap (λ (k : ℕ). test (getD s k 0)) (sym e) ∙ ap test (sym (getD-drop p s (i - p) 0)) ∙ lead-run test (drop p s) (i - p) (omega arith)
+
   -- passing twice is passing once
   pub past-past : past test s (past test s p) ≡ past test s p
   unfolding past
@@ -76,6 +94,14 @@ module _ (test : ℕ → Bool) (s : List ℕ) (p : ℕ) where
   past-byte z =
       let e : getD (drop (lead test (drop p s)) (drop p s)) 0 0 ≡ getD s (p + lead test (drop p s)) 0 = rw (drop-drop, getD-drop, add-zero) in
       ap test (sym e) ∙ lead-stop test (drop p s) z
+
+  -- where a byte passes the test, it has one
+  pub past-some : test 0 ≡ false → test (getD s p 0) ≡ true → p < past test s p
+  past-some z d = by (decLe (past test s p) p)
+    where
+      by : Dec (past test s p ≤ p) → p < past test s p
+      by (yes l) = let e : past test s p ≡ p = omega (arith, past-ge) in let n : test (getD s p 0) ≡ false = rw e at (past-byte z) in clash cc
+      by (no l) = omega arith
 
 -- the value, held down to one above the largest label: no larger value has to be told apart
 abbrev capped : ℕ → ℕ

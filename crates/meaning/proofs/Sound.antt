@@ -5,6 +5,7 @@ use mathlib.Core.Logic.{_↔_}
 use mathlib.Core.Bool.{Bool, true, false, cond, _||_}
 use mathlib.Core.List.{List, [], _∷_, _++_, append-assoc, append-nil}
 use Prim.Native.Nat.{ℕ, zero, suc, _+_, _-_, _<_, _≤_}
+use native.Mathlib.Nat.{add-assoc}
 use native.Mathlib.Numerals.{add-one}
 use native.Mathlib.Omega.{arith}
 use lib.Dec.{lit<}
@@ -15,17 +16,13 @@ use Rattle.meaning.specs.Lists.{member}
 use Rattle.meaning.specs.Tree.{Tree, leaf, fork, labels, In, tip, Good}
 use Rattle.meaning.specs.Reading.{Read, got, refused, isBlank, isDigit, byteAt, lead, past, skip, runEnd, valueAfter, value, badLabel, labelAt, forkAt, readNode, treeAt, readTree}
 use Rattle.meaning.specs.Grammar.{All, TokenText, behind, LabelRun, NodeText, is-label, is-fork, depth, TreeText, is-tree, OneText, is-one}
+use Rattle.meaning.specs.Prefix.{From}
 use Rattle.meaning.proofs.Labels.{in-labels}
 use Rattle.meaning.proofs.Logic.{clash, or-left, or-right, cases}
 use Rattle.meaning.proofs.Lists.{member-append, in-member}
 use Rattle.meaning.proofs.Scan.{inside, lead-le, past-ge, past-byte}
 use Rattle.meaning.proofs.Ways.{Gives, reads, refuses, gives-got, token-gives, then-gives, label-range, label-gives, node-gives, whole-gives}
-use Rattle.meaning.proofs.Complete.{New, at-byte, value-all, one-complete}
-
--- x stands in s from p up to e
-pub record From (s : List ℕ) (p e : ℕ) (x : List ℕ) : Type 0 where
-  pub split : drop p s ≡ x ++ drop e s
-  pub place : e ≡ p + length x
+use Rattle.meaning.proofs.Complete.{New, at-next, at-byte, past-all, value-all, one-complete}
 
 -- one behind the other
 pub then-from : {s : List ℕ} {p q e : ℕ} {x y : List ℕ} → From s p q x → From s q e y → From s p e (x ++ y)
@@ -33,6 +30,17 @@ then-from {s} {e} {x} {y} X Y = record {
   split = X .split ∙ ap (λ (l : List ℕ). x ++ l) (Y .split) ∙ sym (append-assoc x y (drop e s));
   place = rw length-append (omega (arith, X .place, Y .place));
 }
+
+-- what stands behind x, where x and y stand one behind the other
+pub from-behind : {s : List ℕ} {p e : ℕ} (x y : List ℕ) → From s p e (x ++ y) → From s (p + length x) e y
+from-behind {s} {p} {e} x y X = record {
+  split = at-next s p x (y ++ drop e s) (X .split ∙ append-assoc x y (drop e s));
+  place = X .place ∙ simp (length-append, add-assoc);
+}
+
+-- blanks up to a byte that is none are skipped
+pub skip-to : {s : List ℕ} {p q : ℕ} {x : List ℕ} → From s p q x → All isBlank x → isBlank (byteAt s q) ≡ false → skip s p ≡ q
+skip-to {s} {p} {q} {x} X blank solid = past-all isBlank s p x (drop q s) blank (ap isBlank (sym (at-byte s q (drop q s) refl)) ∙ solid) (X .split) ∙ sym (X .place)
 
 -- the run at a text's start passes the test
 run-all : (test : ℕ → Bool) (y : List ℕ) → All test (take (lead test y) y)
@@ -82,6 +90,7 @@ pub record Sound (room : ℕ) (s : List ℕ) (p : ℕ) (seen : List ℕ) (t : Tr
   pub deep : depth t ≤ room
   pub good : Good t
   pub new : New t seen
+  pub longest : (v : ℕ) → t ≡ leaf v → isDigit (byteAt s e) ≡ false
 
 -- the run of digits begins with the byte there
 run-first : (r y : List ℕ) → isDigit (getD (r ++ y) 0 0) ≡ true → isDigit (getD y 0 0) ≡ false → getD (r ++ y) 0 0 ≡ getD r 0 0
@@ -90,7 +99,7 @@ run-first (b ∷ r) y h z = refl
 
 -- a label at q
 module _ (s : List ℕ) (q : ℕ) (h : isDigit (byteAt s q) ≡ true) where
-  abbrev ds : List ℕ
+  abbrev pub ds : List ℕ
   ds = run isDigit s q
 
   abbrev rest : List ℕ
@@ -106,7 +115,7 @@ module _ (s : List ℕ) (q : ℕ) (h : isDigit (byteAt s q) ≡ true) where
   ds-first : byteAt s q ≡ getD ds 0 0
   ds-first = let e = at-byte s q (ds ++ rest) ds-here in e ∙ run-first ds rest (ap isDigit (sym e) ∙ h) ds-next
 
-  ds-value : valueAfter 0 ds ≡ value s q
+  pub ds-value : valueAfter 0 ds ≡ value s q
   unfolding value
   ds-value = sym (ap (valueAfter 0) ds-here ∙ value-all 0 ds rest (run-is isDigit s q) ds-next)
 
@@ -124,14 +133,15 @@ pub leaf-new : {v : ℕ} (seen : List ℕ) → member v seen ≡ false → New (
 leaf-new seen m l tip = m
 
 label-sound : (room : ℕ) (s : List ℕ) (p : ℕ) (seen : List ℕ) → isDigit (byteAt s (skip s p)) ≡ true → Gives (Sound room s p seen) Silent (labelAt s (skip s p) seen)
-unfolding depth
-label-sound room s p seen h = label-gives s (skip s p) seen tt tt (λ allowed m. record {
+unfolding depth isDigit
+label-sound room s p seen h = label-gives s (skip s p) seen (λ b. tt) (λ a m. tt) (λ allowed m. record {
   text = run isBlank s p ++ run isDigit s (skip s p);
   derives = is-label (run isBlank s p) (run-is isBlank s p) (label-run s (skip s p) h allowed);
   stands = then-from (run-from isBlank s p) (run-from isDigit s (skip s p));
   deep = omega arith;
   good = let r = label-range _ _ allowed in leaf-good (r .0) (r .1);
   new = leaf-new seen m;
+  longest = λ v e. past-byte isDigit s (skip s p) refl;
 })
 
 -- two nodes, the second with labels that are new behind the first, make a fork
@@ -168,22 +178,25 @@ module _ (room : ℕ) (s : List ℕ) (p : ℕ) (seen : List ℕ) (h₁ : byteAt 
     deep = omega (arith, A .deep, B .deep);
     good = fork-good a b seen (B .new) (A .good) (B .good);
     new = fork-new a b seen (B .new) (A .new);
+    longest = λ v e. clash cc;
   }
 
-  fork-sound : (node : ℕ → List ℕ → Read Tree) → ((p : ℕ) (seen : List ℕ) → Gives (Sound room s p seen) Silent (node p seen)) → Gives (Sound (suc room) s p seen) Silent (forkAt node s (skip s p + 1) seen)
+  fork-sound : (node : ℕ → List ℕ → Read Tree) → ((p : ℕ) (seen : List ℕ) → Gives (Sound room s p seen) Silent (node p seen))
+      → Gives (Sound (suc room) s p seen) Silent (forkAt node s (skip s p + 1) seen)
   unfolding forkAt
   fork-sound node ih =
       then-gives _ (ih (skip s p + 1) seen) λ a q A.
-      token-gives 44 s q _ tt λ h₂.
+      token-gives 44 s q _ (λ _. tt) λ h₂.
       then-gives _ (ih (skip s q + 1) (seen ++ labels a)) λ b q′ B.
-      token-gives 41 s q′ _ tt λ h₃.
+      token-gives 41 s q′ _ (λ _. tt) λ h₃.
       reads (fork-is a b q q′ A h₂ B h₃)
 
 -- a node that is read is a text of the grammar
 pub sound : (room : ℕ) (s : List ℕ) (p : ℕ) (seen : List ℕ) → Gives (Sound room s p seen) Silent (readNode room s p seen)
 unfolding readNode
-sound zero s p seen = node-gives s (λ q. refused 4 q) p seen tt (label-sound zero s p seen) (λ h. refuses tt)
-sound (suc room) s p seen = node-gives s (λ q. forkAt (readNode room s) s (q + 1) seen) p seen tt (label-sound (suc room) s p seen) (λ h. fork-sound room s p seen h (readNode room s) (sound room s))
+sound zero s p seen = node-gives s (λ q. refused 4 q) p seen (λ _ _. tt) (label-sound zero s p seen) (λ h. refuses tt)
+sound (suc room) s p seen = node-gives s (λ q. forkAt (readNode room s) s (q + 1) seen) p seen (λ _ _. tt)
+    (label-sound (suc room) s p seen) (λ h. fork-sound room s p seen h (readNode room s) (sound room s))
 
 -- what is known of a tree that was read from p up to e, the place behind its `;`
 pub record SoundTree (s : List ℕ) (p : ℕ) (t : Tree) (e : ℕ) : Type 0 where
@@ -207,7 +220,7 @@ module _ (s : List ℕ) (p : ℕ) where
   -- every answer of the reader of a tree is so
   pub tree-gives : Gives (SoundTree s p) Silent (treeAt s p)
   unfolding treeAt
-  tree-gives = then-gives _ (sound maxOpen s p []) λ t q S. token-gives 59 s q _ tt λ h. reads (tree-is t q S h)
+  tree-gives = then-gives _ (sound maxOpen s p []) λ t q S. token-gives 59 s q _ (λ _. tt) λ h. reads (tree-is t q S h)
 
 -- a tree that is read is a tree text
 pub tree-sound : (s : List ℕ) (p : ℕ) (t : Tree) (e : ℕ) → treeAt s p ≡ got t e → SoundTree s p t e

@@ -10,7 +10,7 @@ use Rattle.meaning.specs.Limits.{maxOpen, maxTrees}
 use Rattle.meaning.specs.Tree.{Tree, Good, AllGood}
 use Rattle.meaning.specs.Reading.{got, isBlank, skip, nodeAt, readNode, treeAt, likeFirst, tableFrom, readTable}
 use Rattle.meaning.specs.Listing.{treeOf}
-use Rattle.meaning.specs.Grammar.{TreesText, none, more, TableText}
+use Rattle.meaning.specs.Grammar.{TreeText, TreesText, none, more, TableText}
 use Rattle.meaning.proofs.Scan.{past-past}
 use Rattle.meaning.proofs.Ways.{Gives, refuses, gives-got, gives-map, then-gives, end-gives, like-gives, table-ends, table-next}
 use Rattle.meaning.proofs.Complete.{at-next, blanks-end, tree-complete}
@@ -39,6 +39,17 @@ module _ (s : List ℕ) (p : ℕ) where
   unfolding treeAt
   tree-skip = rw (node-skip maxOpen [])
 
+-- a tree more, behind the trees ts: its text stands at p
+module _ {t : Tree} {y : List ℕ} (T : TreeText t y) (s : List ℕ) (p : ℕ) (rest : List ℕ) (here : drop p s ≡ y ++ rest) where
+  pub next-tree : treeAt s (skip s p) ≡ got t (p + length y)
+  next-tree = tree-skip s p ∙ tree-complete T s p rest here
+
+  pub next-behind : (skip s p < p + length y) × (p + length y ≤ length s)
+  next-behind = let b = tree-behind s (skip s p) t (p + length y) next-tree in (b .0, b .1)
+
+  pub next-read : (slots : ℕ) (ts : List Tree) → 1 ≤ slots → likeFirst ts t ≡ 0 → tableFrom slots s (skip s p) ts ≡ tableFrom (slots - 1) s (skip s (p + length y)) (ts ++ (t ∷ []))
+  next-read slots ts h like = table-next slots s (skip s p) ts (omega (arith, next-behind .0, next-behind .1)) h ∙ rw (next-tree, like)
+
 -- the trees of a text are read, behind the trees ts
 trees-complete : {us : List Tree} {x : List ℕ} → TreesText us x → (slots : ℕ) (s : List ℕ) (p : ℕ) (ts : List Tree) → p ≤ length s → drop p s ≡ x → length us ≤ slots → Like ts us
     → tableFrom slots s (skip s p) ts ≡ got (ts ++ us) (length s)
@@ -46,10 +57,8 @@ trees-complete (none x blank) slots s p ts h here few alike =
     let e : skip s p ≡ length s = blanks-end s p x blank here ∙ omega (arith, length-drop p s, ap length here) in
     table-ends slots s (skip s p) ts (omega arith) ∙ rw (e, append-nil)
 trees-complete (more {t} {ts = us} {x} {y} T R) slots s p ts h here few alike =
-    let e : treeAt s (skip s p) ≡ got t (p + length x) = tree-skip s p ∙ tree-complete T s p y here in
-    let b = tree-behind s (skip s p) t (p + length x) e in
-    table-next slots s (skip s p) ts (omega arith) (omega arith)
-    ∙ rw (e, like-first t us ts alike) (trees-complete R (slots - 1) s (p + length x) (ts ++ (t ∷ [])) (b .1) (at-next s p x y here) (omega arith) (like-rest t us ts alike) ∙ rw append-assoc)
+    next-read T s p y here slots ts (omega arith) (like-first t us ts alike)
+    ∙ trees-complete R (slots - 1) s (p + length x) (ts ++ (t ∷ [])) (next-behind T s p y here .1) (at-next s p x y here) (omega arith) (like-rest t us ts alike) ∙ rw append-assoc
 
 -- so each table of the grammar is read
 pub table-complete : {ts : List Tree} {s : List ℕ} → TableText ts s → readTable s ≡ got ts (length s)

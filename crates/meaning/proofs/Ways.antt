@@ -15,6 +15,10 @@ use Rattle.meaning.specs.Tree.{Tree, leaf}
 use Rattle.meaning.specs.Reading.{Read, got, refused, isDigit, byteAt, skip, runEnd, value, andThen, orWrong, token, badLabel, labelAt, forkAt, nodeAt, readNode, treeAt, readTree, likeFirst, orDiffers, orEnd, tableFrom}
 use Rattle.meaning.proofs.Logic.{clash, or-left, or-right, cases}
 
+-- where the test for equal numbers fails, they differ
+eqb-differs : (a b : ℕ) → eqb a b ≡ false → a ≡ b → ⊥
+eqb-differs a b e h = let z = eq-eqb a b h in clash cc
+
 -- the token stands there, or another byte does
 module _ {A : Type 0} (b : ℕ) (s : List ℕ) (p : ℕ) (next : ℕ → Read A) where
   pub token-yes : byteAt s (skip s p) ≡ b → token b s p next ≡ next (skip s p + 1)
@@ -90,15 +94,26 @@ module _ {A : Type 0} {P : A → ℕ → Type 0} {Q : ℕ → ℕ → Type 0} wh
   gives-refused {n} {p} (refuses {n = m} {p = q} h) e = let x : m ≡ n = cc in let y : q ≡ p = cc in rw (← x, ← y) h
 
   -- a token: the rest, or line 1
-  pub token-gives : (b : ℕ) (s : List ℕ) (p : ℕ) (next : ℕ → Read A) → Q 1 (skip s p) → (byteAt s (skip s p) ≡ b → Gives P Q (next (skip s p + 1))) → Gives P Q (token b s p next)
+  pub token-gives : (b : ℕ) (s : List ℕ) (p : ℕ) (next : ℕ → Read A) → ((byteAt s (skip s p) ≡ b → ⊥) → Q 1 (skip s p)) → (byteAt s (skip s p) ≡ b → Gives P Q (next (skip s p + 1)))
+      → Gives P Q (token b s p next)
   unfolding token
   token-gives b s p next wrong goes-on =
-      cases (λ d. Gives P Q (orWrong d (skip s p) (λ q. next (q + 1)))) (eqb (byteAt s (skip s p)) b) (λ e. goes-on (eqb-true (byteAt s (skip s p)) b e)) (λ _. refuses wrong)
+      cases (λ d. Gives P Q (orWrong d (skip s p) (λ q. next (q + 1)))) (eqb (byteAt s (skip s p)) b) (λ e. goes-on (eqb-true (byteAt s (skip s p)) b e)) (λ e. refuses (wrong (eqb-differs (byteAt s (skip s p)) b e)))
 
 -- more is known of what was read, or of a refusal
 pub gives-map : {A : Type 0} {P P′ : A → ℕ → Type 0} {Q Q′ : ℕ → ℕ → Type 0} {r : Read A} → ((a : A) (p : ℕ) → P a p → P′ a p) → ((n p : ℕ) → Q n p → Q′ n p) → Gives P Q r → Gives P′ Q′ r
 gives-map f g (reads {a} {p} h) = reads (f a p h)
 gives-map f g (refuses {n} {p} h) = refuses (g n p h)
+
+-- an answer is itself
+pub gives-self : {A : Type 0} (r : Read A) → Gives (λ a p. r ≡ got a p) (λ n p. r ≡ refused n p) r
+gives-self (got a p) = reads refl
+gives-self (refused n p) = refuses refl
+
+-- two things are known of an answer
+pub gives-and : {A : Type 0} {P P′ : A → ℕ → Type 0} {Q Q′ : ℕ → ℕ → Type 0} {r : Read A} → Gives P Q r → Gives P′ Q′ r → Gives (λ a p. P a p × P′ a p) (λ n p. Q n p × Q′ n p) r
+gives-and (reads h) (reads k) = reads (h, k)
+gives-and (refuses h) (refuses k) = refuses (h, k)
 
 -- one thing after another
 pub then-gives : {A B : Type 0} {P : A → ℕ → Type 0} {P′ : B → ℕ → Type 0} {Q : ℕ → ℕ → Type 0} {r : Read A} (next : A → ℕ → Read B)
@@ -108,22 +123,23 @@ then-gives next (refuses h) f = refuses h
 
 module _ {P : Tree → ℕ → Type 0} {Q : ℕ → ℕ → Type 0} (s : List ℕ) where
   -- a label: line 2, line 3, or a leaf
-  pub label-gives : (q : ℕ) (seen : List ℕ) → Q 2 q → Q 3 q
+  pub label-gives : (q : ℕ) (seen : List ℕ) → (badLabel (byteAt s q) (value s q) ≡ true → Q 2 q) → (badLabel (byteAt s q) (value s q) ≡ false → member (value s q) seen ≡ true → Q 3 q)
       → (badLabel (byteAt s q) (value s q) ≡ false → member (value s q) seen ≡ false → P (leaf (value s q)) (runEnd s q)) → Gives P Q (labelAt s q seen)
   unfolding labelAt
   label-gives q seen bad again new =
       let fits : Read Tree = got (leaf (value s q)) (runEnd s q) in
-      cases (λ d. Gives P Q (cond d (refused 2 q) (cond (member (value s q) seen) (refused 3 q) fits))) (badLabel (byteAt s q) (value s q)) (λ _. refuses bad)
-      (λ e. cases (λ d. Gives P Q (cond d (refused 3 q) fits)) (member (value s q) seen) (λ _. refuses again) (λ f. reads (new e f)))
+      cases (λ d. Gives P Q (cond d (refused 2 q) (cond (member (value s q) seen) (refused 3 q) fits))) (badLabel (byteAt s q) (value s q)) (λ e. refuses (bad e))
+      (λ e. cases (λ d. Gives P Q (cond d (refused 3 q) fits)) (member (value s q) seen) (λ f. refuses (again e f)) (λ f. reads (new e f)))
 
   -- a node: line 1, a label, or what a bracket gives
-  pub node-gives : (bracket : ℕ → Read Tree) (p : ℕ) (seen : List ℕ) → Q 1 (skip s p) → (isDigit (byteAt s (skip s p)) ≡ true → Gives P Q (labelAt s (skip s p) seen))
+  pub node-gives : (bracket : ℕ → Read Tree) (p : ℕ) (seen : List ℕ) → (isDigit (byteAt s (skip s p)) ≡ false → (byteAt s (skip s p) ≡ 40 → ⊥) → Q 1 (skip s p))
+      → (isDigit (byteAt s (skip s p)) ≡ true → Gives P Q (labelAt s (skip s p) seen))
       → (byteAt s (skip s p) ≡ 40 → Gives P Q (bracket (skip s p))) → Gives P Q (nodeAt bracket s p seen)
   unfolding nodeAt
   node-gives bracket p seen wrong label opens =
       let b : ℕ = byteAt s (skip s p) in
       cases (λ d. Gives P Q (cond d (labelAt s (skip s p) seen) (orWrong (eqb b 40) (skip s p) bracket))) (isDigit b) label
-      (λ _. cases (λ d. Gives P Q (orWrong d (skip s p) bracket)) (eqb b 40) (λ e. opens (eqb-true b 40 e)) (λ _. refuses wrong))
+      (λ e. cases (λ d. Gives P Q (orWrong d (skip s p) bracket)) (eqb b 40) (λ f. opens (eqb-true b 40 f)) (λ f. refuses (wrong e (eqb-differs b 40 f))))
 
   -- a text with one tree: a tree behind which the text ends, or line 1 where it goes on
   pub whole-gives : {P′ : Tree → ℕ → Type 0} → Gives P′ Q (treeAt s 0) → ((t : Tree) (p : ℕ) → P′ t p → skip s p < length s → Q 1 (skip s p))

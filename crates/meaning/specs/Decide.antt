@@ -4,9 +4,9 @@ use mathlib.Core.Bool.{Bool, false, not, _&&_}
 use Prim.Native.Nat.{ℕ}
 use lib.Dec.{eqb, leb}
 use Rattle.meaning.specs.Limits.{maxLabel}
-use Rattle.meaning.specs.Lists.{any, every, noDup?, count}
+use Rattle.meaning.specs.Lists.{eqList, any, every, noDup?, count}
 use Rattle.meaning.specs.Tree.{Tree, leaf, fork, labels, canon}
-use Rattle.meaning.specs.Move.{Cut, cuts}
+use Rattle.meaning.specs.Move.{Cut, cuts, forest}
 
 -- no label occurs twice
 abbrev pub distinct? : Tree → Bool
@@ -35,9 +35,9 @@ sameForest? c d = sameTopology? (c .rest) (d .rest) && sameTopology? (c .pruned)
 abbrev pub oneMove? : Tree → Tree → Bool
 oneMove? t u = any (λ c. any (sameForest? c) (cuts u)) (cuts t)
 
--- how many forests the two trees share
+-- how many forests the two trees share: the cuts of t whose forest text is that of a cut of u
 abbrev pub shared : Tree → Tree → ℕ
-shared t u = count (λ c. any (sameForest? c) (cuts u)) (cuts t)
+shared t u = count (λ c. any (λ d. eqList (forest c) (forest d)) (cuts u)) (cuts t)
 
 -- they differ, and share a forest
 abbrev pub apart? : Tree → Tree → Bool

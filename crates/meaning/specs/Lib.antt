@@ -8,6 +8,7 @@ pub mod Listing
 pub mod Lists
 pub mod Loops
 pub mod Move
+pub mod Prefix
 pub mod Reading
 pub mod Refusals
 pub mod Samples

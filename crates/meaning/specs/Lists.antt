@@ -6,6 +6,13 @@ use Prim.Native.Nat.{ℕ, zero, suc, _+_}
 use lib.Dec.{eqb}
 use lib.ListN.{getD, set}
 
+-- two lists of numbers are the same
+abbrev pub eqList : List ℕ → List ℕ → Bool
+eqList [] [] = true
+eqList [] (y ∷ ys) = false
+eqList (x ∷ xs) [] = false
+eqList (x ∷ xs) (y ∷ ys) = eqb x y && eqList xs ys
+
 -- the test passes at a member of the list
 abbrev pub any : {A : Type 0} → (A → Bool) → List A → Bool
 any test [] = false

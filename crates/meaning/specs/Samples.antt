@@ -24,7 +24,7 @@ pub data Sample : Type 0 where
   yes-apart : (text text′ : String) → Sample
   no-apart : (text text′ : String) → Sample
   shares : (text text′ : String) (forests : ℕ) → Sample
-  lists : (table : String) (pairs : List Pair) → Sample
+  lists : (table : String) (trees : ℕ) (pairs : List Pair) → Sample
 
 -- the claim of a sample, whatever memory of the stated size is lent
 abbrev pub Claim : Sample → Type 0
@@ -37,7 +37,8 @@ Claim (table-refused x n p) =
 Claim (yes-apart x y) = PairCall (bytes x) (bytes y) (accepted true)
 Claim (no-apart x y) = PairCall (bytes x) (bytes y) (accepted false)
 Claim (shares x y n) = (t : Tree) × (u : Tree) × (pairRead (bytes x) (bytes y) ≡ accepted (t, u)) × (shared t u ≡ n)
-Claim (lists x ps) = (memory : GraphMemory) → pairNumbers ≤ length (memory .pairs) → maxTrees ≤ length (memory .counts) → (ts : List Tree) × GraphCall (bytes x) memory (graphOf ts ps memory)
+Claim (lists x k ps) =
+    (memory : GraphMemory) → pairNumbers ≤ length (memory .pairs) → maxTrees ≤ length (memory .counts) → (ts : List Tree) × (length ts ≡ k) × GraphCall (bytes x) memory (graphOf ts ps memory)
 
 -- all of them hold
 abbrev pub AllHold : List Sample → Type 0
@@ -60,7 +61,7 @@ samples =
     ∷ has-cut "((1,2),(3,4));" 3 "(1,2) (3,4);"
     ∷ yes-apart "(((1,2),3),4);" "((1,2),(3,4));"
     ∷ shares "(((1,2),3),4);" "((1,2),(3,4));" 3
-    ∷ lists "(((1,2),3),4);((1,2),(3,4));" ((0, 1) ∷ [])
+    ∷ lists "(((1,2),3),4);((1,2),(3,4));" 2 ((0, 1) ∷ [])
     ∷ no-apart "(((1,2),3),4);" "(((3,4),1),2);"
     ∷ no-apart "((((4,5),1),2),3);" "((((1,2),3),4),5);"
     ∷ []

@@ -38,7 +38,7 @@ module _ {node : List ℕ} {at room : ℕ} (d : Draft node at room) {t : Tree} (
   few-more =
       omega (arith, few 64 (seen node at ++ labels t) once-more (λ l m. ⊎-elim (λ n. labelsIn-range (take at node) l n) (λ n. good .small l (labels-in t n)) (List·Memᴰ·append-cases (seen node at) m)), length-append (seen node at) (labels t), labels-length t)
 
-  pub fits-more : at + nodes t < length node
+  pub fits-more : at + nodes t ≤ length node
   fits-more = omega (arith, few-more, twice t, d .size, d .fits)
 
   took : take (at + nodes t) (sets node at (pre t)) ≡ take at node ++ pre t

@@ -1,14 +1,24 @@
 -- What a step that meets `Read` says: it goes on with what was accepted, or it refuses as reading does.
 -- Assumes nothing.
-use mathlib.Core.Path.{_≡_, refl, sym, ap}
+use mathlib.Core.Path.{_≡_, sym, ap, _∙_}
 use Prim.Native.Nat.{ℕ}
-use Rattle.meaning.specs.Reading.{Read, got, refused}
+use Rattle.meaning.specs.Reading.{Read, got, refused, andThen}
+use Rattle.meaning.specs.Answer.{refusal}
 use Rattle.meaning.proofs.Logic.{clash}
-use Rattle.reading.specs.Draft.{refusedAt}
-use Rattle.reading.specs.Whole.{StepMeets, goes-on, refuses}
+use Rattle.reading.specs.Paper.{Going, goesOn, stepAnswer, StepMeets, goes-on, refuses}
 use Rattle.reading.specs.declared.Step.{Step}
 use Rattle.reading.specs.declared.Refusal.{Refusal}
 use Rattle.reading.specs.declared.Step.the-variants.{Next, Refused}
+
+-- where reading goes on is one place, and one size
+pub going-is : {p q k n : ℕ} → goesOn p k ≡ goesOn q n → (p ≡ q) × (k ≡ n)
+going-is {p} {q} {k} {n} e =
+    let f : _≡_ {A = Going} (record { behind = p; size = k }) (record { behind = q; size = n }) = cc in
+    (ap (λ (g : Going). g .behind) f, ap (λ (g : Going). g .size) f)
+
+-- what follows what was read
+pub then-got : {A B : Type 0} {g : Read A} {x : A} {p : ℕ} (next : A → ℕ → Read B) → g ≡ got x p → andThen g next ≡ next x p
+then-got next e = rw e
 
 -- what was accepted
 pub record Accepts {A : Type 0} (size : A → ℕ) (Keep : A → Type 0) (g : Read A) (p k : ℕ) : Type 0 where
@@ -17,28 +27,29 @@ pub record Accepts {A : Type 0} (size : A → ℕ) (Keep : A → Type 0) (g : Re
   pub count : k ≡ size value
   pub keeps : Keep value
 
--- what was refused
-pub record Denies {A : Type 0} (g : Read A) (step : Step) : Type 0 where
-  pub number : ℕ
-  pub place : ℕ
-  pub is : g ≡ refused number place
-  pub told : step ≡ refusedAt number place
-
-module _ {A : Type 0} {size : A → ℕ} {Keep : A → Type 0} {step : Step} where
-  pub step-got : {g : Read A} {x : A} {p : ℕ} → g ≡ got x p → step ≡ Next p (size x) → Keep x → StepMeets size Keep step g
+module _ {A : Type 0} {size : A → ℕ} {Keep : A → Type 0} where
+  pub step-got : {step : Step} {g : Read A} {x : A} {p : ℕ} → g ≡ got x p → stepAnswer step ≡ goesOn p (size x) → Keep x → StepMeets size Keep step g
   step-got {x} {p} e h k = rw e (goes-on x p h k)
 
-  pub step-refused : {g : Read A} {n p : ℕ} → g ≡ refused n p → step ≡ refusedAt n p → StepMeets size Keep step g
+  pub step-refused : {step : Step} {g : Read A} {n p : ℕ} → g ≡ refused n p → stepAnswer step ≡ refusal n 0 p → StepMeets size Keep step g
   step-refused {n} {p} e h = rw e (refuses n p h)
 
-  pub step-next : {g : Read A} {p k : ℕ} → StepMeets size Keep step g → step ≡ Next p k → Accepts size Keep g p k
-  step-next {p} {k} (goes-on x q h w) e = let y : q ≡ p = cc in let z : size x ≡ k = cc in record { value = x; is = ap (got x) y; count = sym z; keeps = w }
+  pub step-next : {step : Step} {g : Read A} {p k : ℕ} → StepMeets size Keep step g → step ≡ Next p k → Accepts size Keep g p k
+  step-next (goes-on x q h w) e = let f = going-is (sym (ap stepAnswer e) ∙ h) in record { value = x; is = ap (got x) (sym (f .0)); count = f .1; keeps = w }
   step-next (refuses n q h) e = clash cc
 
-  pub step-denied : {g : Read A} {x : Refusal} → StepMeets size Keep step g → step ≡ Refused x → Denies g step
-  step-denied (goes-on y q h w) e = clash cc
-  step-denied (refuses n q h) e = record { number = n; place = q; is = refl; told = h }
+  pub step-denied : {step : Step} {g : Read A} {x : Refusal} → StepMeets size Keep step g → step ≡ Refused x → (g ≡ refused (x .number) (x .place)) × (x .text ≡ 0)
+  step-denied (goes-on x q h w) e = clash cc
+  step-denied (refuses m q h) e = (cc, cc)
 
--- the refusal that the step has
-pub refusal-is : {n p : ℕ} {x : Refusal} → refusedAt n p ≡ Refused x → record { number = n; text = 0; place = p } ≡ x
-refusal-is e = cc
+  -- a refusal stands
+  pub step-ends : {B : Type 0} {size′ : B → ℕ} {Keep′ : B → Type 0} {step : Step} {g : Read A} {x : Refusal} (next : A → ℕ → Read B)
+      → StepMeets size Keep step g → step ≡ Refused x → StepMeets size′ Keep′ step (andThen g next)
+  step-ends next (goes-on x q h w) e = clash cc
+  step-ends next (refuses m q h) e = refuses m q h
+
+  -- a token behind what is kept is passed, or refused
+  pub step-passed : {n : ℕ} {step : Step} {g : Read (Unit {0})} (x : A)
+      → StepMeets (λ u. n) (λ u. Unit {0}) step g → n ≡ size x → Keep x → StepMeets size Keep step (andThen g (λ u p. got x p))
+  step-passed x (goes-on u p h w) e k = goes-on x p (h ∙ ap (goesOn p) e) k
+  step-passed x (refuses n p h) e k = refuses n p h

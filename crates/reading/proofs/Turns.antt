@@ -7,17 +7,18 @@ use native.Mathlib.Omega.{arith}
 use lib.ListN.{length, length-append}
 use Rattle.meaning.specs.Tree.{Tree as Topology}
 use Rattle.meaning.specs.Reading.{Read, refused, andThen, skip, treeAt, unlike, likeFirst, orDiffers, tableFrom, readTable}
+use Rattle.meaning.specs.Answer.{refusal}
 use Rattle.meaning.proofs.Sound.{tree-behind}
 use Rattle.meaning.proofs.Ways.{table-ends, table-full, table-next}
 use Rattle.held.specs.Kept.{Keeps, heldAt, KeepsAll, Adds}
 use Rattle.held.specs.declared.Table.{Table}
-use Rattle.reading.specs.Draft.{refusedAt}
+use Rattle.reading.specs.Paper.{goesOn, stepAnswer, StepMeets}
 use Rattle.reading.specs.Whole.{TreeMeets, TableMeets}
 use Rattle.reading.specs.declared.Refusal.{Refusal}
 use Rattle.reading.specs.declared.TreeRead.{TreeRead}
 use Rattle.reading.specs.declared.Step.the-variants.{Next, Refused}
 use Rattle.reading.specs.declared.tables.TableRead.{TableRead}
-use Rattle.reading.proofs.Steps.{step-got, step-refused, step-next, step-denied}
+use Rattle.reading.proofs.Steps.{then-got, step-got, step-refused, step-next, step-ends}
 
 -- the trees so far are kept, and the rest of the text gives the answer
 pub record State (s : List ℕ) (table : Table) (at : ℕ) : Type 0 where
@@ -44,10 +45,10 @@ pub record TreeIn (s : List ℕ) (table : Table) (at : ℕ) (read : TreeRead) (p
 
 module _ {s : List ℕ} {table : Table} {at : ℕ} (st : State s table at) where
   pub at-end : length s ≤ at → TableMeets (record { step = Next at (table .len); table = table }) (readTable s)
-  at-end h = step-got (st .same ∙ table-ends (160 - table .len) s at (st .done) h) (ap (Next at) (st .keeps .count)) (st .keeps)
+  at-end h = step-got (st .same ∙ table-ends (160 - table .len) s at (st .done) h) (ap (goesOn at) (st .keeps .count)) (st .keeps)
 
   module _ (more : at < length s) where
-    pub at-full : {r : TableRead} → 160 ≤ table .len → r .step ≡ refusedAt 6 at → TableMeets r (readTable s)
+    pub at-full : {r : TableRead} → 160 ≤ table .len → stepAnswer (r .step) ≡ refusal 6 0 at → TableMeets r (readTable s)
     at-full e h = step-refused (st .same ∙ table-full (160 - table .len) s at (st .done) more (omega arith)) h
 
     module _ (room : table .len ≡ 160 → ⊥) {read : TreeRead} (m : TreeMeets read (treeAt s at)) where
@@ -56,8 +57,8 @@ module _ {s : List ℕ} {table : Table} {at : ℕ} (st : State s table at) where
           let z : 160 - table .len - 1 ≡ 160 - (table .len + 1) = omega arith in
           rw z at (st .same ∙ table-next (160 - table .len) s at (st .done) more (omega (arith, st .keeps .count, st .keeps .few, room)))
 
-      pub at-refused : {r : TableRead} {x : Refusal} → read .step ≡ Refused x → r .step ≡ read .step → TableMeets r (readTable s)
-      at-refused e h = let D = step-denied m e in step-refused (more-trees ∙ ap (λ g. andThen g (goes s table (st .done))) (D .is)) (h ∙ D .told)
+      pub at-refused : {Keep : List Topology → Type 0} {x : Refusal} → read .step ≡ Refused x → StepMeets length Keep (read .step) (readTable s)
+      at-refused e = rw more-trees (step-ends (goes s table (st .done)) m e)
 
       pub tree-in : {p k : ℕ} → read .step ≡ Next p k → TreeIn s table at read p
       tree-in {p} e =
@@ -68,7 +69,7 @@ module _ {s : List ℕ} {table : Table} {at : ℕ} (st : State s table at) where
             keeps = D .keeps;
             left = omega (arith, st .keeps .count, st .keeps .few, room);
             place = omega (arith, tree-behind s at (D .value) p (D .is) .0);
-            next = more-trees ∙ ap (λ g. andThen g (goes s table (st .done))) (D .is);
+            next = more-trees ∙ then-got (goes s table (st .done)) (D .is);
           }
 
 -- it is kept behind the others
@@ -88,7 +89,7 @@ module _ {s : List ℕ} {table : Table} {at : ℕ} {read : TreeRead} {p : ℕ} (
   alike : b ≡ likeFirst (T .state .done) (T .tree)
   alike = f (T .state .done) (T .tree) (T .state .keeps) (T .keeps)
 
-  pub at-differs : {r : TableRead} → (b ≡ 0 → ⊥) → r .step ≡ refusedAt b (p - 1) → TableMeets r (readTable s)
+  pub at-differs : {r : TableRead} → (b ≡ 0 → ⊥) → stepAnswer (r .step) ≡ refusal b 0 (p - 1) → TableMeets r (readTable s)
   at-differs e h = step-refused (T .next ∙ rw (← alike) (by b e)) h
     where
       by : (b : ℕ) → (b ≡ 0 → ⊥) → orDiffers b (T .tree) p (λ t p. tableFrom (160 - (table .len + 1)) s (skip s p) (T .state .done ++ (t ∷ []))) ≡ refused b (p - 1)

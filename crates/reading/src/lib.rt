@@ -11,7 +11,9 @@ ghost use Prim.Native.Nat.{ℕ, min, suc, _+_, _-_, _/_, _≤_, _<_};
 ghost use lib.ListN.{getD};
 ghost use Rattle.meaning.specs.Limits.{maxLabel};
 ghost use Rattle.meaning.specs.Reading.{isBlank, isDigit, skip, runEnd, value, badLabel, forkAt, labelAt, readNode, treeAt, readTree};
-ghost use Rattle.reading.specs.Draft.{tooLarge, draftBytes, seen, Draft, Meets, refusedAt, tokenStep};
+ghost use Rattle.meaning.specs.Answer.{refusal};
+ghost use Rattle.reading.specs.Draft.{tooLarge, draftBytes, seen, Draft, Meets, tokenAt, TokenMeets};
+ghost use Rattle.reading.specs.Paper.{stepAnswer};
 ghost use Rattle.reading.specs.Whole.{TreeMeets};
 
 // A line of the refusal list: its number, which text (0, or 1 for the second of a pair) and the place.
@@ -129,8 +131,8 @@ fn digit_run(s: &[u8], from: usize) -> Run
 }
 
 // The step that refuses, of text 0.
-fn refuse(number: u8, place: usize) -> Step
-    ensures { λ r. ⌜ r ≡ refusedAt number place ⌝ }
+pub fn refuse(number: u8, place: usize) -> Step
+    ensures { λ r. ⌜ stepAnswer r ≡ refusal number 0 place ⌝ }
 {
     Step::Refused(Refusal {
         number,
@@ -172,7 +174,7 @@ fn read_label(s: &[u8], q: usize, node: &mut [u8], at: usize) -> Step
 // The token b, after blanks: where reading goes on behind it, with the next node at `at`.
 fn expect_byte(s: &[u8], from: usize, b: u8, at: usize) -> Step
     requires { ⌜ 0 < b ⌝ }
-    ensures { λ r. ⌜ r ≡ tokenStep b (now (s .entry)) from at ⌝ }
+    ensures { λ r. ⌜ TokenMeets at (tokenAt b (now (s .entry)) from) r ⌝ }
 {
     let q = skip_blanks(s, from);
     if byte_at(s, q) == b {

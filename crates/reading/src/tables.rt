@@ -7,8 +7,9 @@ ghost use mathlib.Core.Path.{_≡_};
 ghost use mathlib.Core.List.{List};
 ghost use Rattle.meaning.specs.Tree.{Tree as Topology};
 ghost use Rattle.meaning.specs.Reading.{unlike as unlikeOf, likeFirst, readTable};
+ghost use Rattle.meaning.specs.Answer.{refusal};
 ghost use Rattle.held.specs.Kept.{Keeps, KeepsAll};
-ghost use Rattle.reading.specs.Draft.{refusedAt};
+ghost use Rattle.reading.specs.Paper.{stepAnswer};
 ghost use Rattle.reading.specs.Whole.{TableMeets};
 
 // What reading a table gives: the step, with the number of its trees, and the table, which counts only where reading goes on.
@@ -39,14 +40,12 @@ fn like_first(table: Table, tree: Tree) -> u8
 }
 
 fn refuse(number: u8, place: usize, table: Table) -> TableRead
-    ensures { λ r. ⌜ r .step ≡ refusedAt number place ⌝ }
+    ensures { λ r. ⌜ stepAnswer (r .step) ≡ refusal number 0 place ⌝ }
 {
-    let step = Step::Refused(Refusal {
-        number,
-        text: 0,
-        place,
-    });
-    TableRead { step, table }
+    TableRead {
+        step: super::refuse(number, place),
+        table,
+    }
 }
 
 // A text of 0 to 160 trees, each with the labels of the first.

@@ -1,6 +1,6 @@
 -- What is printed for a text: the sheet of a table whose pairs were listed, or the line of its refusal.
 -- Assumes nothing.
-use mathlib.Core.Path.{_≡_, sym, ap, _∙_}
+use mathlib.Core.Path.{_≡_, ap, _∙_}
 use mathlib.Core.List.{List}
 use Prim.Native.Nat.{ℕ, _+_, _≤_, _<_}
 use native.Mathlib.Omega.{arith}
@@ -27,7 +27,7 @@ use Rattle.reading.specs.Whole.{TableMeets}
 use Rattle.reading.specs.declared.Refusal.{Refusal}
 use Rattle.reading.specs.declared.Step.the-variants.{Next, Refused}
 use Rattle.reading.specs.declared.tables.TableRead.{TableRead}
-use Rattle.reading.proofs.Steps.{step-next, step-denied, refusal-is}
+use Rattle.reading.proofs.Steps.{step-next, step-denied}
 use Rattle.graph.specs.Graph.{ListRoom, GraphWritten}
 use Rattle.sheet.specs.Lines.{TreesListed, PairsListed, SheetFits}
 use Rattle.sheet.specs.Printed.{TableFits, SheetWritten, Printed}
@@ -100,8 +100,7 @@ module _ (s out : List ℕ) (lent : length out ≡ sheetBytes) where
     -- the line of a text that reading refuses
     pub refused-ready : {x : Refusal} → read .step ≡ Refused x → (n : ℕ) → n ≡ x .number → Ready s out (refusalLine n (x .place))
     refused-ready {x} e n number =
-        let D = step-denied m e in
-        let stops : readTable s ≡ refused n (x .place) = rw number (D .is ∙ ap (λ (y : Refusal). refused (y .number) (y .place)) (refusal-is (sym (D .told) ∙ e))) in
+        let stops : readTable s ≡ refused n (x .place) = rw number (step-denied m e .0) in
         let denied : tableRead s ≡ refusal n 0 (x .place) = whole-read ∙ ap (answered 0) stops in
         refusal-ready n (x .place) denied (leb→le n 8 (every-mem (λ (m : ℕ). leb m 8) tt (table-refused s n (x .place) stops .line))) (omega (arith, tells-refusal (table-tells s) denied .place))
 

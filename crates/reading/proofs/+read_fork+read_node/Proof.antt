@@ -1,18 +1,19 @@
--- `reading::read_fork` and `reading::read_node` meet their contracts. The measure: twice the brackets that may still open, and one more in a fork.
+-- `reading::read_fork` and `reading::read_node` meet their contracts. The brackets that may still open and the text left fall: twice both, and one more in a fork.
 -- Assumes nothing.
 use mathlib.Core.Path.{_≡_, refl, sym, _∙_}
+use mathlib.Core.List.{List}
 use native.Mathlib.Omega.{arith}
 use borrow.Author.Needs.{needs}
 use lib.Dec.{lit<}
 use lib.ListN.{length, set, length-set}
-use Rattle.meaning.specs.Reading.{readNode}
-use Rattle.meaning.proofs.Scan.{inside}
-use Rattle.reading.specs.Draft.{seen, tokenStep, Meets}
-use Rattle.reading.specs.declared.Step.the-variants.{Next}
+use Rattle.meaning.specs.Reading.{isBlank, skip, readNode}
+use Rattle.meaning.proofs.Scan.{inside, past-ge}
+use Rattle.reading.specs.Draft.{seen, Meets, tokenAt}
 use Rattle.reading.proofs.Draft.{less-room, open-room, draft-open}
-use Rattle.reading.proofs.Meet.{met-length}
-use Rattle.reading.proofs.Fork.{fork-no-first, fork-no-comma, second-draft, fork-no-second, close-room, fork-closed, via-label, via-deep, via-fork, via-wrong}
-use Prim.Native.Nat.{ℕ, _+_, _*_, _<_}
+use Rattle.reading.proofs.Meet.{Passed}
+use Rattle.reading.proofs.Steps.{step-next}
+use Rattle.reading.proofs.Fork.{fork-no-first, fork-no-comma, second-behind, second-draft, fork-no-second, close-room, fork-closed, via-label, via-deep, via-fork, via-wrong}
+use Prim.Native.Nat.{ℕ, _+_, _-_, _*_, _≤_, _<_}
 use borrow.Fn.Kinds.{In}
 use borrow.Fn.PlainCycle.{Measures, is, falls, and}
 use Rattle.reading.proofs.read_fork.Reads as read-fork
@@ -31,11 +32,23 @@ use Rattle.reading.proofs.skip_blanks.Reads as skip-blanks-reads
 use Rattle.reading.proofs.+read_fork+read_node.{statement}
 use Rattle.reading.proofs.+read_fork+read_node.Tie.{close}
 
+-- twice the brackets that may still open and the bytes left of the text
+abbrev left : ℕ → List ℕ → ℕ → ℕ
+left room s from = 2 * (room + (length s - from))
+
+-- a bracket takes one of the brackets, and its byte of the text
+bracket-takes : (room : ℕ) (s : List ℕ) (p q : ℕ) {t : ℕ} → left room s p ≡ t → (room ≡ 0 → ⊥) → q ≡ skip s p → q < length s → left (room - 1) s (q + 1) + 1 < t
+bracket-takes room s p q e f g l = omega (arith, past-ge isBlank s p)
+
+-- a node of a fork begins where the fork's nodes do, or behind
+node-takes : (room : ℕ) (s : List ℕ) (p q : ℕ) {t : ℕ} → left room s p + 1 ≡ t → p ≤ q → left room s q < t
+node-takes room s p q e h = omega arith
+
 abbrev μ-read-fork : Measures 2 read-fork-kinds.ps ℕ
-μ-read-fork κs a = 2 * a .1 .1 .0 + 1
+μ-read-fork κs a = left (a .1 .1 .0) (a .0 .now) (a .1 .0) + 1
 
 abbrev μ-read-node : Measures 2 read-node-kinds.ps ℕ
-μ-read-node κs a = 2 * a .1 .1 .0
+μ-read-node κs a = left (a .1 .1 .0) (a .0 .now) (a .1 .0)
 
 abbrev read-fork-at : ℕ → In 2 read-fork-kinds.ps
 read-fork-at t = and 2 read-fork-kinds.ps (is 2 read-fork-kinds.ps μ-read-fork t) read-fork.Pre
@@ -68,14 +81,14 @@ first-met t c = c .read-node .ensures
 abbrev first-of : (t : ℕ) (c : read-fork-lts.After-comma (fork-claims t) (read-fork-at t) read-fork.Post) → read-fork-lts.After-read-node (fork-claims t) (read-fork-at t) read-fork.Post
 first-of t c = c .before .before .before .before .before .before .before .before
 
-comma-is : (t : ℕ) (c : read-fork-lts.After-comma (fork-claims t) (read-fork-at t) read-fork.Post) → tokenStep 44 (start t (first-of t c) .args .s .now) (c .before .before .before .before .first .given .0 .0) (c .before .before .before .before .first .given .0 .1 .0) ≡ Next (c .comma .given .0 .0) (c .comma .given .0 .1 .0)
-comma-is t c = sym (c .before .before .expect-byte .ensures) ∙ c .comma .given .1
+comma-is : (t : ℕ) (c : read-fork-lts.After-comma (fork-claims t) (read-fork-at t) read-fork.Post) → Passed (c .before .before .before .before .first .given .0 .1 .0) (tokenAt 44 (start t (first-of t c) .args .s .now) (c .before .before .before .before .first .given .0 .0)) (c .comma .given .0 .0) (c .comma .given .0 .1 .0)
+comma-is t c = step-next (c .before .before .expect-byte .ensures) (c .comma .given .1)
 
 second-met : (t : ℕ) (c : read-fork-lts.After-read-node2 (fork-claims t) (read-fork-at t) read-fork.Post) → Meets (first-of t (c .before .before .before) .read-node .last .1 .1 .1 .0) (c .read-node2 .last .1 .1 .1 .0) (c .before .before .before .comma .given .0 .1 .0) (readNode (start t (first-of t (c .before .before .before)) .args .room) (start t (first-of t (c .before .before .before)) .args .s .now) (c .before .before .before .comma .given .0 .0) (seen (first-of t (c .before .before .before) .read-node .last .1 .1 .1 .0) (c .before .before .before .comma .given .0 .1 .0))) (c .read-node2 .result)
 second-met t c = c .read-node2 .ensures
 
 second-length : (t : ℕ) (c : read-fork-lts.After-read-node2 (fork-claims t) (read-fork-at t) read-fork.Post) → length (c .read-node2 .last .1 .1 .1 .0) ≡ length (start t (first-of t (c .before .before .before)) .args .node .now)
-second-length t c = met-length (second-met t c) ∙ met-length (first-met t (first-of t (c .before .before .before))) ∙ simp length-set
+second-length t c = second-met t c .same ∙ first-met t (first-of t (c .before .before .before)) .same ∙ simp length-set
 
 read-fork-slice-write-node : (t : ℕ) → read-fork-lts.Need-slice-write-node (fork-claims t) (read-fork-at t) read-fork.Post
 read-fork-slice-write-node t c = open-room (c .before .before .pre .1)
@@ -93,7 +106,7 @@ read-fork-enum-told : (t : ℕ) → read-fork-lts.Need-enum-told (fork-claims t)
 read-fork-enum-told t c = search needs
 
 read-fork-same-length : (t : ℕ) → read-fork-lts.Need-same-length (fork-claims t) (read-fork-at t) read-fork.Post
-read-fork-same-length t c = met-length (first-met t (c .before .before .before .before)) ∙ simp length-set
+read-fork-same-length t c = first-met t (c .before .before .before .before) .same ∙ simp length-set
 
 read-fork-returns : (t : ℕ) → read-fork-lts.Need-returns (fork-claims t) (read-fork-at t) read-fork.Post
 read-fork-returns t c =
@@ -111,7 +124,7 @@ read-fork-enum-told-2 : (t : ℕ) → read-fork-lts.Need-enum-told-2 (fork-claim
 read-fork-enum-told-2 t c = search needs
 
 read-fork-same-length-2 : (t : ℕ) → read-fork-lts.Need-same-length-2 (fork-claims t) (read-fork-at t) read-fork.Post
-read-fork-same-length-2 t c = met-length (first-met t (c .before .before .before .before .before .before .before .before)) ∙ simp length-set
+read-fork-same-length-2 t c = first-met t (c .before .before .before .before .before .before .before .before) .same ∙ simp length-set
 
 read-fork-returns-2 : (t : ℕ) → read-fork-lts.Need-returns-2 (fork-claims t) (read-fork-at t) read-fork.Post
 read-fork-returns-2 t c =
@@ -124,7 +137,10 @@ read-fork-read-node-requires-2 t c κs =
     let k = c .before .before in
     let d = first-of t k in
     let a = start t d .args in
-    (omega (arith, start t d .pre .0), second-draft (a .s .now) (a .from) (a .room) (start t d .pre .1) (first-met t d) (k .before .before .before .before .first .given .1) (comma-is t k))
+    let e = k .before .before .before .before .first .given .1 in (
+      node-takes (a .room) (a .s .now) (a .from) _ (start t d .pre .0) (second-behind (a .s .now) (a .from) (a .room) (start t d .pre .1) (first-met t d) e (comma-is t k)),
+      second-draft (a .s .now) (a .from) (a .room) (start t d .pre .1) (first-met t d) e (comma-is t k),
+    )
 
 read-fork-enum-known-second : (t : ℕ) → read-fork-lts.Need-enum-known-second (fork-claims t) (read-fork-at t) read-fork.Post
 read-fork-enum-known-second t c = search needs
@@ -184,7 +200,7 @@ read-node-read-label-requires : (t : ℕ) → read-node-lts.Need-read-label-requ
 read-node-read-label-requires t c κs = less-room (c .before .before .before .before .before .before .before .pre .1) (omega arith)
 
 read-node-same-length : (t : ℕ) → read-node-lts.Need-same-length (node-claims t) (read-node-at t) read-node.Post
-read-node-same-length t c = met-length (c .before .before .read-label .ensures)
+read-node-same-length t c = c .before .before .read-label .ensures .same
 
 read-node-returns : (t : ℕ) → read-node-lts.Need-returns (node-claims t) (read-node-at t) read-node.Post
 read-node-returns t c =
@@ -201,8 +217,12 @@ read-node-returns-2 t c =
     let a = d .before .before .before .before .before .before .args in
     via-deep (a .s .now) (a .from) (d .before .before .before .skip-blanks .ensures) (d .before .before .byte-at .ensures) (d .before .is-digit .ensures) (a .room) (d .if1 .left) (c .before .before .if2 .taken) (c .before .if3 .taken) (c .refuse .ensures) refl
 
+-- the bracket is in the text
+bracket-in : (t : ℕ) (c : read-node-lts.Else3 (node-claims t) (read-node-at t) read-node.Post) → c .before .before .before .before .before .skip-blanks .result < length (c .before .before .before .before .before .before .before .before .args .s .now)
+bracket-in t c = inside (c .before .before .before .before .before .before .before .before .args .s .now) (c .before .before .before .before .before .skip-blanks .result) (sym (c .before .before .before .before .byte-at .ensures) ∙ c .before .if2 .taken) (lit< tt)
+
 read-node-add-read-fork : (t : ℕ) → read-node-lts.Need-add-read-fork (node-claims t) (read-node-at t) read-node.Post
-read-node-add-read-fork t c = omega (arith, inside (c .before .before .before .before .before .before .before .before .args .s .now) (c .before .before .before .before .before .skip-blanks .result) (sym (c .before .before .before .before .byte-at .ensures) ∙ c .before .if2 .taken) (lit< tt))
+read-node-add-read-fork t c = omega (arith, bracket-in t c)
 
 read-node-sub-read-fork : (t : ℕ) → read-node-lts.Need-sub-read-fork (node-claims t) (read-node-at t) read-node.Post
 read-node-sub-read-fork t c = search needs
@@ -210,10 +230,12 @@ read-node-sub-read-fork t c = search needs
 read-node-read-fork-requires : (t : ℕ) → read-node-lts.Need-read-fork-requires (node-claims t) (read-node-at t) read-node.Post
 read-node-read-fork-requires t c κs =
     let start = c .before .before .before .before .before .before .before .before .before in
-    (omega (arith, start .pre .0, c .before .if3 .left), less-room (start .pre .1) (omega (arith, c .before .if3 .left)))
+    let a = start .args in
+    let e = c .before .before .before .before .before .before .skip-blanks .ensures in
+    (bracket-takes (a .room) (a .s .now) (a .from) _ (start .pre .0) (c .before .if3 .left) e (bracket-in t (c .before)), less-room (start .pre .1) (omega (arith, c .before .if3 .left)))
 
 read-node-same-length-2 : (t : ℕ) → read-node-lts.Need-same-length-2 (node-claims t) (read-node-at t) read-node.Post
-read-node-same-length-2 t c = met-length (c .before .before .read-fork .ensures)
+read-node-same-length-2 t c = c .before .before .read-fork .ensures .same
 
 read-node-returns-3 : (t : ℕ) → read-node-lts.Need-returns-3 (node-claims t) (read-node-at t) read-node.Post
 read-node-returns-3 t c =

@@ -3,10 +3,12 @@
 use mathlib.Core.Path.{sym, ap, _∙_}
 use Prim.Native.Nat.{ℕ, _+_}
 use native.Mathlib.Omega.{arith}
+use Rattle.meaning.specs.Reading.{got}
+use Rattle.meaning.specs.Answer.{refusal}
 use Rattle.meaning.proofs.Scan.{inside}
-use Rattle.reading.specs.Draft.{refusedAt}
-use Rattle.reading.specs.declared.Step.the-variants.{Next}
-use Rattle.reading.proofs.Meet.{step-yes, step-no}
+use Rattle.meaning.proofs.Ways.{token-yes, token-no}
+use Rattle.reading.specs.Paper.{goesOn}
+use Rattle.reading.proofs.Steps.{step-got, step-refused}
 use borrow.Author.Needs.{needs}
 use Rattle.reading.proofs.expect_byte.Statement.{statement}
 use Rattle.reading.proofs.expect_byte.Tie as tie
@@ -27,13 +29,13 @@ returns : tie.Need-returns
 returns c =
     let a = c .before .before .before .before .args in
     let q = c .before .before .skip-blanks .ensures in
-    sym (step-yes (a .b) (a .s .now) (a .from) (a .at) (rw (← q) (sym (c .before .byte-at .ensures) ∙ c .if1 .taken)) ∙ ap (λ (p : ℕ). Next (p + 1) (a .at)) (sym q))
+    step-got (token-yes (a .b) (a .s .now) (a .from) (λ p. got tt p) (rw (← q) (sym (c .before .byte-at .ensures) ∙ c .if1 .taken))) (ap (λ (p : ℕ). goesOn (p + 1) (a .at)) q) tt
 
 returns-2 : tie.Need-returns-2
 returns-2 c =
     let a = c .before .before .before .before .before .args in
     let q = c .before .before .before .skip-blanks .ensures in
-    c .refuse .ensures ∙ ap (refusedAt 1) q ∙ sym (step-no (a .b) (a .s .now) (a .from) (a .at) (λ e. c .before .if1 .left (c .before .before .byte-at .ensures ∙ (rw (← q) at e))))
+    step-refused (token-no (a .b) (a .s .now) (a .from) (λ p. got tt p) (λ e. c .before .if1 .left (c .before .before .byte-at .ensures ∙ (rw (← q) at e)))) (c .refuse .ensures ∙ ap (refusal 1 0) q)
 
 pub expect-byte-spec : {M : Type 1} → statement M
 expect-byte-spec =

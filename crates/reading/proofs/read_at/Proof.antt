@@ -1,6 +1,5 @@
 -- `reading::read_at` meets its contract.
 -- Assumes nothing.
-use mathlib.Core.Path.{refl}
 use Rattle.reading.proofs.Whole.{draft-blank, at-refused, read-holds, at-end}
 use borrow.Author.Needs.{needs}
 use Rattle.reading.proofs.read_at.Statement.{statement}
@@ -25,7 +24,7 @@ returns : tie.Need-returns
 returns c =
     let d = c .before .before .before .before in
     let a = d .before .before .before .args in
-    at-refused (a .s .now) (a .from) (d .read-node .ensures) (c .before .enum-told .given .1) refl
+    at-refused (a .s .now) (a .from) (d .read-node .ensures) (c .before .enum-told .given .1)
 
 expect-byte-requires : tie.Need-expect-byte-requires
 expect-byte-requires c κs = search needs

@@ -7,7 +7,7 @@ use native.Mathlib.Omega.{arith}
 use borrow.Author.Needs.{needs}
 use Rattle.meaning.specs.Reading.{byteAt, value, badLabel}
 use Rattle.meaning.proofs.Ways.{label-bad, label-again}
-use Rattle.reading.specs.declared.Step.the-variants.{Next}
+use Rattle.reading.specs.Paper.{goesOn}
 use Rattle.reading.proofs.Draft.{draft-in}
 use Rattle.reading.proofs.Meet.{meets-refused, Checked, checked, label-room, label-got}
 use Rattle.reading.proofs.read_label.Statement.{statement}
@@ -79,7 +79,7 @@ same-length-2 : tie.Need-same-length-2
 same-length-2 c = search needs
 
 returns-3 : tie.Need-returns-3
-returns-3 c = let d = test (c .before) in label-got (unseen c) (ap (λ (p : ℕ). Next p (start d .args .at + 1)) (d .before .before .digit-run .ensures .0))
+returns-3 c = let d = test (c .before) in label-got (unseen c) (ap (λ (p : ℕ). goesOn p (start d .args .at + 1)) (d .before .before .digit-run .ensures .0))
 
 pub read-label-spec : {M : Type 1} → statement M
 read-label-spec =

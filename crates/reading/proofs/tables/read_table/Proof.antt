@@ -1,6 +1,5 @@
 -- `reading::tables::read_table` meets its contract.
 -- Assumes nothing.
-use mathlib.Core.Path.{refl}
 use mathlib.Core.List.{List}
 use Prim.Native.Nat.{ℕ, _-_}
 use native.Mathlib.Omega.{arith}
@@ -51,7 +50,7 @@ enum-told c = search needs
 returns-2 : tie.Need-returns-2 Inv-loop μ-loop
 returns-2 c =
     let read = c .before .before in
-    at-refused (head read .loop .inv) (read .before .before .before .loop-test .taken) (read .before .if1 .left) (read .read-at .ensures) (c .enum-told .given .1) refl
+    at-refused (head read .loop .inv) (read .before .before .before .loop-test .taken) (read .before .if1 .left) (read .read-at .ensures) (c .enum-told .given .1)
 
 -- what is known of a tree that was read
 tree-read : (c : tie.After-known-told Inv-loop μ-loop)
