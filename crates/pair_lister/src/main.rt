@@ -1,13 +1,15 @@
-// The pair lister: reads standard input to its end and prints the sheet. One byte above the limit is read at most, which is
-// enough to refuse the text.
-use libc::STDIN_FILENO;
-use libc::STDOUT_FILENO;
+// The pair lister: reads standard input to its end and prints the sheet, or says on standard error that the input could not be
+// read, and prints nothing. One byte above the limit is enough to refuse the text; what stands behind the buffer is not read.
+use console::Input;
 use sheet::Sheet;
 
 fn main() {
     let mut text = io::large_buffer();
-    let length = io::read_full(STDIN_FILENO, &mut text);
+    let input = console::read_input(&mut text);
+    let Input::Whole(length) = input else {
+        return;
+    };
     let mut out = [0u8; Sheet::MAX_BYTES];
     let printed = sheet::sheet_of(&text[..length], &mut out);
-    io::write_all(STDOUT_FILENO, &out[..printed]);
+    console::print(&out[..printed]);
 }

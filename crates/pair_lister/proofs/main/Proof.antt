@@ -1,52 +1,75 @@
 -- `pair_lister::main` meets its contract.
 -- Assumes nothing.
-use mathlib.Core.Path.{sym}
+use mathlib.Core.Path.{_≡_, sym, subst}
+use mathlib.Core.List.{List}
+use Prim.Native.Nat.{ℕ}
 use lib.Seq.{length-take-le}
 use borrow.Author.Needs.{needs}
+use Rattle.console.specs.Input.{InputWithin}
+use Rattle.console.specs.declared.Input.{Input}
+use Rattle.console.specs.declared.Input.the-variants as input
 use Rattle.pair_lister.proofs.main.Statement.{statement}
 use Rattle.pair_lister.proofs.main.Tie as tie
 
 large-buffer-requires : tie.Need-large-buffer-requires
 large-buffer-requires c κs = search needs
 
-slice-aggregate-read-full : tie.Need-slice-aggregate-read-full
-slice-aggregate-read-full c = search needs
+slice-aggregate-read-input : tie.Need-slice-aggregate-read-input
+slice-aggregate-read-input c = search needs
 
-read-full-requires : tie.Need-read-full-requires
-read-full-requires c κs = search needs
+read-input-requires : tie.Need-read-input-requires
+read-input-requires c κs = search needs
+
+enum-known-input : tie.Need-enum-known-input
+enum-known-input c = search needs
+
+enum-told : tie.Need-enum-told
+enum-told c = search needs
+
+returns : tie.Need-returns
+returns c = search needs
+
+-- the bytes of the input are at the start of the buffer
+whole-within : (buf : List ℕ) {r : Input} (n : ℕ) → r ≡ input.Whole n → InputWithin buf r → InputWithin buf (input.Whole n)
+whole-within buf n e h = subst (InputWithin buf) e h
 
 array-share-prefix-text : tie.Need-array-share-prefix-text
-array-share-prefix-text c = search needs
+array-share-prefix-text c = whole-within (c .before .before .before .before .read-input .last .0) (c .before .input .given .0 .0) (c .before .input .given .1) (c .before .before .before .before .read-input .ensures) .0
 
 slice-aggregate-sheet-of : tie.Need-slice-aggregate-sheet-of
-slice-aggregate-sheet-of c = search needs
+slice-aggregate-sheet-of c =
+    let told = c .before .before in
+    whole-within (told .before .before .before .read-input .last .0) (told .input .given .0 .0) (told .input .given .1) (told .before .before .before .read-input .ensures) .1
 
 sheet-of-requires : tie.Need-sheet-of-requires
 sheet-of-requires c κs = search needs
 
 array-share-prefix-out : tie.Need-array-share-prefix-out
-array-share-prefix-out c = c .sheet-of .ensures .room
+array-share-prefix-out c = search needs
 
-slice-aggregate-write-all : tie.Need-slice-aggregate-write-all
-slice-aggregate-write-all c = sym (length-take-le (c .before .sheet-of .result) (c .before .sheet-of .last .1 .0) (c .before .sheet-of .ensures .room))
+slice-aggregate-print : tie.Need-slice-aggregate-print
+slice-aggregate-print c = sym (length-take-le (c .before .sheet-of .result) (c .before .sheet-of .last .1 .0) (c .before .sheet-of .ensures .room))
 
-write-all-requires : tie.Need-write-all-requires
-write-all-requires c κs = search needs
+print-requires : tie.Need-print-requires
+print-requires c κs = search needs
 
-returns : tie.Need-returns
-returns c = search needs
+returns-2 : tie.Need-returns-2
+returns-2 c = search needs
 
 pub main-spec : {M : Type 1} → statement M
 main-spec =
     tie.close
     (tie.spec
     large-buffer-requires
-    slice-aggregate-read-full
-    read-full-requires
+    slice-aggregate-read-input
+    read-input-requires
+    enum-known-input
+    enum-told
+    returns
     array-share-prefix-text
     slice-aggregate-sheet-of
     sheet-of-requires
     array-share-prefix-out
-    slice-aggregate-write-all
-    write-all-requires
-    returns)
+    slice-aggregate-print
+    print-requires
+    returns-2)
