@@ -179,7 +179,7 @@ fn read_table(text: &[u8]) -> Result<Vec<Tree>, Refusal> {
         let (tree, semicolon) = reader.tree()?;
         if trees
             .first()
-            .is_some_and(|first| first.labels() != tree.labels())
+            .map_or(false, |first| first.labels() != tree.labels())
         {
             return Err(Refusal {
                 number: OTHER_LABELS,

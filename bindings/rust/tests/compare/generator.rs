@@ -97,8 +97,9 @@ impl Tree {
 
     /// The tree without node `at`, which is not the root, and that node.
     fn pruned(self, at: usize) -> (Tree, Tree) {
-        let Fork(one, other) = self else {
-            panic!("a leaf has no further node");
+        let (one, other) = match self {
+            Fork(one, other) => (one, other),
+            _ => panic!("a leaf has no further node"),
         };
         let half = one.nodes();
         if at == 1 {
@@ -195,10 +196,10 @@ pub fn damage(random: &mut Random, text: &mut Vec<u8>) {
             }
             // A label, if one begins here or behind.
             _ => {
-                let Some(start) = text[at..].iter().position(u8::is_ascii_digit) else {
-                    continue;
+                let start = match text[at..].iter().position(u8::is_ascii_digit) {
+                    Some(behind) => at + behind,
+                    None => continue,
                 };
-                let start = at + start;
                 let digits = text[start..]
                     .iter()
                     .take_while(|b| b.is_ascii_digit())
