@@ -1,9 +1,9 @@
 /*
  * Norbelath: rooted binary trees as texts, and which of them are one prune and regraft apart.
  *
- * Five calls over lent memory. They allocate nothing, keep nothing between calls and may be called from several threads
- * at once; the table and graph calls use about 100 KB of stack. Any bytes may be given as a text: what is not as it
- * should be is refused, with the reason and the place.
+ * Six calls over lent memory. They allocate nothing, keep nothing between calls and may be called from several threads
+ * at once; the table and graph calls use about 120 KB of stack, the sheet call about 170 KB. Any bytes may be given as a
+ * text: what is not as it should be is refused, with the reason and the place.
  *
  * A text is a pointer and its length in bytes; it needs no byte 0 at its end. A lent slice is a pointer and its length in
  * elements. No pointer is NULL. The slices and numbers that a call may write overlap neither each other nor a text.
@@ -11,7 +11,8 @@
  * The result is 0 where the call is accepted, and else the number of the refusal. Two lent numbers receive:
  *
  *                   *first                       *second
- *   form, cut       bytes written                0
+ *   form, cut,      bytes written                0
+ *   sheet
  *   pair            1 for yes, 0 for no          0
  *   table           bytes written                trees
  *   graph           trees                        pairs
@@ -42,6 +43,7 @@ extern "C" {
 #define NORBELATH_TABLE_ENDS 160
 #define NORBELATH_GRAPH_PAIRS 25440
 #define NORBELATH_GRAPH_COUNTS 160
+#define NORBELATH_SHEET_OUT 220902
 
 /* Results. The place of a refusal is given behind each; 7, 8 and 9 have place 0. */
 #define NORBELATH_ACCEPTED 0
@@ -89,6 +91,14 @@ uint8_t norbelath_table(const uint8_t *text, size_t text_len,
 uint8_t norbelath_graph(const uint8_t *text, size_t text_len,
                         uint16_t *pairs, size_t pairs_len,
                         uint16_t *counts, size_t counts_len,
+                        uint64_t *first, uint64_t *second);
+
+/*
+ * Sheet call: what the pair lister prints for a text. A text that is refused has its sheet too, the line `refused N at P`:
+ * so the only refusal of this call is 7.
+ */
+uint8_t norbelath_sheet(const uint8_t *text, size_t text_len,
+                        uint8_t *out, size_t out_len,
                         uint64_t *first, uint64_t *second);
 
 #ifdef __cplusplus

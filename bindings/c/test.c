@@ -42,7 +42,7 @@ static int same(struct reply r, uint8_t result, uint64_t first, uint64_t second)
     return r.result == result && r.first == first && r.second == second;
 }
 
-/* Form call and cut call: `expected` is the text, or NULL where the refusal is expected. */
+/* Form call, cut call and sheet call: `expected` is the text, or NULL where the refusal is expected. */
 static void text_answer(const char *call, const char *text, struct reply r, const uint8_t *out, size_t out_len,
                         const char *expected, uint8_t number, uint64_t place)
 {
@@ -124,6 +124,17 @@ static void graph_refused(const char *text, size_t text_len, size_t pairs_len, s
     check(same(r, number, 0, place), "graph", text, "another refusal was expected");
     check(untouched(pairs, 0, sizeof pairs) && untouched(counts, 0, sizeof counts), "graph", text,
           "a refusal changed a slice");
+}
+
+/* One byte more than the sheet call asks for. */
+static uint8_t printed[NORBELATH_SHEET_OUT + 1];
+
+static void sheet(const char *text, size_t text_len, size_t out_len, const char *expected)
+{
+    struct reply r = {99, 99, 99};
+    memset(printed, UNTOUCHED, sizeof printed);
+    r.result = norbelath_sheet((const uint8_t *)text, text_len, printed, out_len, &r.first, &r.second);
+    text_answer("sheet", text, r, printed, sizeof printed, expected, NORBELATH_SHORT_SLICE, 0);
 }
 
 static void forms(void)
@@ -228,6 +239,27 @@ static void graphs(void)
     graph_refused(text, strlen(text), numbers, trees - 1, NORBELATH_SHORT_SLICE, 0);
 }
 
+/* What the pair lister prints, of a table and of a text that is refused; line 7 is the only refusal. */
+static void sheets(void)
+{
+    const size_t enough = NORBELATH_SHEET_OUT;
+    const char *text = "((2,1),3);\n(3,(2,1));\n(1,(2,3));\n((1,3),2);\n";
+    const char *expected = "trees 4 pairs 5\n"
+                           "tree 0 neighbours 2 unlinked 1 ((1,2),3);\n"
+                           "tree 1 neighbours 2 unlinked 1 ((1,2),3);\n"
+                           "tree 2 neighbours 3 unlinked 0 (1,(2,3));\n"
+                           "tree 3 neighbours 3 unlinked 0 ((1,3),2);\n"
+                           "pair 0 2\npair 0 3\npair 1 2\npair 1 3\npair 2 3\n";
+    sheet(text, strlen(text), enough, expected);
+    sheet(text, strlen(text), enough + 1, expected);
+    sheet(text, strlen(text), enough - 1, NULL);
+    sheet("", 0, enough, "trees 0 pairs 0\n");
+    sheet("(1,2);(1,3);", 12, enough, "refused 5 at 11\n");
+    sheet("(1,2", 4, enough, "refused 1 at 4\n");
+    sheet("(1,2", 4, enough - 1, NULL);
+    sheet("(1,2", 4, 0, NULL);
+}
+
 /* 160 trees are accepted and a 161st is refused; so is a text of one byte too many, whatever it holds. */
 static void limits(void)
 {
@@ -244,11 +276,16 @@ static void limits(void)
     table_refused(text, full + size, NORBELATH_TABLE_TEXTS, NORBELATH_TABLE_ENDS, NORBELATH_TOO_MANY_TREES, full);
     graph_refused(text, full + size, NORBELATH_GRAPH_PAIRS, NORBELATH_GRAPH_COUNTS, NORBELATH_TOO_MANY_TREES, full);
 
+    sheet(text, full + size, NORBELATH_SHEET_OUT, "refused 6 at 960\n");
+
     memset(text, ' ', sizeof text);
     r = table(text, NORBELATH_MAX_TEXT, NORBELATH_TABLE_TEXTS, NORBELATH_TABLE_ENDS);
     check(same(r, NORBELATH_ACCEPTED, 0, 0), "table", "blanks", "no trees were expected");
     table_refused(text, sizeof text, NORBELATH_TABLE_TEXTS, NORBELATH_TABLE_ENDS, NORBELATH_LONG_TEXT, 0);
     graph_refused(text, sizeof text, NORBELATH_GRAPH_PAIRS, NORBELATH_GRAPH_COUNTS, NORBELATH_LONG_TEXT, 0);
+    sheet(text, NORBELATH_MAX_TEXT, NORBELATH_SHEET_OUT, "trees 0 pairs 0\n");
+    sheet(text, sizeof text, NORBELATH_SHEET_OUT, "refused 8 at 0\n");
+    sheet(text, sizeof text, NORBELATH_SHEET_OUT - 1, NULL);
 }
 
 int main(void)
@@ -259,6 +296,7 @@ int main(void)
     pair_answers();
     tables();
     graphs();
+    sheets();
     limits();
     printf("C: %d checks, %d failed\n", checks, failures);
     return failures != 0;

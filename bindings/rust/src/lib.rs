@@ -13,6 +13,8 @@
 //! assert_eq!(graph.counts, [1, 2, 1]);
 //! let table = norbelath::table(b"(2,1); (1,2);").unwrap();
 //! assert_eq!(table.trees().collect::<Vec<_>>(), [b"(1,2);", b"(1,2);"]);
+//! assert_eq!(norbelath::sheet(b"(1,2);"), b"trees 1 pairs 0\ntree 0 neighbours 0 unlinked 0 (1,2);\n");
+//! assert_eq!(norbelath::sheet(b"(1,2"), b"refused 1 at 4\n");
 //! let refusal = norbelath::form(b"(1,2").unwrap_err();
 //! assert_eq!((refusal.number, refusal.place), (norbelath::Refusal::WRONG_BYTE, 4));
 //! ```
@@ -37,6 +39,8 @@ pub const TABLE_ENDS: usize = 160;
 pub const GRAPH_PAIRS: usize = 25_440;
 /// The least length of the slice lent to [`graph_into`] for the counts.
 pub const GRAPH_COUNTS: usize = 160;
+/// The least length of the slice lent to [`sheet_into`].
+pub const SHEET_OUT: usize = 220_902;
 
 // A slice is a pointer and its length in elements. The library asks nothing else of its callers than what references
 // give: the memory is there, and what is lent to be written overlaps nothing.
@@ -83,6 +87,14 @@ extern "C" {
         pairs_len: usize,
         counts: *mut u16,
         counts_len: usize,
+        first: *mut u64,
+        second: *mut u64,
+    ) -> u8;
+    fn norbelath_sheet(
+        text: *const u8,
+        text_len: usize,
+        out: *mut u8,
+        out_len: usize,
         first: *mut u64,
         second: *mut u64,
     ) -> u8;
@@ -288,6 +300,23 @@ pub fn graph_into(
     Ok(GraphSize { trees, pairs })
 }
 
+/// Writes what the pair lister prints for a text into `out`, of at least [`SHEET_OUT`] bytes. Gives its length.
+///
+/// A text that is refused has its sheet too, the line `refused N at P`: the only refusal is [`Refusal::SHORT_SLICE`].
+pub fn sheet_into(text: &[u8], out: &mut [u8]) -> Result<usize, Refusal> {
+    let (bytes, _) = answer(|first, second| unsafe {
+        norbelath_sheet(
+            text.as_ptr(),
+            text.len(),
+            out.as_mut_ptr(),
+            out.len(),
+            first,
+            second,
+        )
+    })?;
+    Ok(bytes)
+}
+
 /// The canonical text of a text's one tree.
 pub fn form(text: &[u8]) -> Result<Vec<u8>, Refusal> {
     let mut out = vec![0; FORM_OUT];
@@ -326,4 +355,12 @@ pub fn graph(text: &[u8]) -> Result<Graph, Refusal> {
         .map(|pair| (pair[0], pair[1]))
         .collect();
     Ok(Graph { pairs, counts })
+}
+
+/// What the pair lister prints for a text: the sheet of its trees, or the line of its refusal.
+pub fn sheet(text: &[u8]) -> Vec<u8> {
+    let mut out = vec![0; SHEET_OUT];
+    let bytes = sheet_into(text, &mut out).expect("enough is lent, and nothing else is refused");
+    out.truncate(bytes);
+    out
 }

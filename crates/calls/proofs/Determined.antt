@@ -5,7 +5,8 @@ use mathlib.Core.List.{List}
 use Prim.Native.Nat.{ℕ}
 use Rattle.meaning.specs.Answer.{Answer, Outcome, TableSize, TableMemory, GraphSize, GraphMemory}
 use Rattle.meaning.specs.Calls.{formCall, cutCall, PairCall, tableCall, GraphCall}
-use Rattle.meaning.proofs.Determined.{pair-determined, graph-determined}
+use Rattle.meaning.specs.Sheet.{SheetCall}
+use Rattle.meaning.proofs.Determined.{pair-determined, graph-determined, sheet-call-determined as sheet-determined}
 use Rattle.meaning.proofs.Logic.{clash}
 use Rattle.reading.specs.declared.Refusal.{Refusal}
 use Rattle.calls.specs.Paper.{refusalOf, textAnswer, textOutcome, pairAnswer, tableAnswer, tableOutcome, graphAnswer, graphOutcome}
@@ -43,6 +44,9 @@ form-call-determined s out e f = text-determined e f
 
 pub cut-call-determined : (s : List ℕ) (c : ℕ) (out : List ℕ) {r r′ : TextAnswer} {o o′ : List ℕ} → textOutcome r o ≡ cutCall s c out → textOutcome r′ o′ ≡ cutCall s c out → (r ≡ r′) × (o ≡ o′)
 cut-call-determined s c out e f = text-determined e f
+
+pub sheet-call-determined : (s out : List ℕ) {r r′ : TextAnswer} {o o′ : List ℕ} → SheetCall s out (textOutcome r o) → SheetCall s out (textOutcome r′ o′) → (r ≡ r′) × (o ≡ o′)
+sheet-call-determined s out e f = text-determined (sheet-determined e f) refl
 
 -- the table call
 pub table-one : (r r′ : TableAnswer) → tableAnswer r ≡ tableAnswer r′ → r ≡ r′

@@ -2,5 +2,6 @@ pub mod Determined
 pub mod Graphing
 pub mod Lent
 pub mod Pairing
+pub mod Sheets
 pub mod Tabling
 pub mod Texts

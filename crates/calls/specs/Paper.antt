@@ -18,7 +18,7 @@ use Rattle.calls.specs.declared.GraphAnswer.the-variants as graph
 abbrev pub refusalOf : {A : Type 0} → Refusal → Answer A
 refusalOf x = refusal (x .number) (x .text) (x .place)
 
--- the form call and the cut call: the bytes written
+-- the form call, the cut call and the sheet call: the bytes written
 abbrev pub textAnswer : TextAnswer → Answer ℕ
 textAnswer (Written n) = accepted n
 textAnswer (Refused x) = refusalOf x

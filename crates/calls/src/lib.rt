@@ -5,6 +5,7 @@ use reading::Refusal;
 use reading::Step;
 use reading::TableRead;
 use reading::TreeRead;
+use sheet::Sheet;
 ghost use mathlib.Core.Path.{_≡_};
 ghost use mathlib.Core.Bool.{_&&_};
 ghost use Prim.Native.Nat.{_≤_};
@@ -13,6 +14,7 @@ ghost use lib.ListN.{length};
 ghost use Rattle.meaning.specs.Tree.{Tree as Topology};
 ghost use Rattle.meaning.specs.Reading.{got, readTree};
 ghost use Rattle.meaning.specs.Calls.{lent, limited, answered, formCall, cutCall, beside, PairCall, tableRead, tableCall, GraphCall};
+ghost use Rattle.meaning.specs.Sheet.{SheetCall};
 ghost use Rattle.held.specs.Held.{nodes};
 ghost use Rattle.held.specs.Kept.{Keeps, Kept};
 ghost use Rattle.graph.specs.Graph.{slices};
@@ -249,4 +251,14 @@ pub fn graph_call(s: &[u8], pairs: &mut [u16], counts: &mut [u16]) -> GraphAnswe
             graph::list_pairs(pairs, counts, read.table),
         ),
     }
+}
+
+// Sheet call: what the pair lister prints for s, from the start of out on; a text that is refused has its line printed.
+pub fn sheet_call(s: &[u8], out: &mut [u8]) -> TextAnswer
+    ensures { λ r. ⌜ SheetCall (now (s .entry)) (now (out .entry)) (textOutcome r (now (out .exit))) ⌝ }
+{
+    if !enough(Sheet::MAX_BYTES, out.len(), true) {
+        return TextAnswer::Refused(refusal_at_zero(Refusal::SHORT_SLICE, 0));
+    }
+    TextAnswer::Written(sheet::print_sheet(s, out))
 }

@@ -3,7 +3,7 @@
 use mathlib.Core.Path.{_≡_, refl, sym, subst}
 use mathlib.Core.Logic.{_↔_, _⊎_, inl, inr}
 use mathlib.Core.Bool.{Bool, true, false, cond}
-use mathlib.Core.List.{List, List·Memᴰ}
+use mathlib.Core.List.{List, [], List·Memᴰ}
 use Prim.Native.Nat.{ℕ, zero, suc, _-_, _*_, _≤_, _<_}
 use native.Mathlib.Omega.{arith}
 use borrow.Author.Tests.{ltb-true}
@@ -14,14 +14,14 @@ use Rattle.meaning.specs.Lists.{any}
 use Rattle.meaning.specs.Tree.{Tree, Distinct, Good, AllGood, SameClade, leaves}
 use Rattle.meaning.specs.Move.{Apart}
 use Rattle.meaning.specs.Reading.{Read, got, refused, readTree, readTable, unlike}
-use Rattle.meaning.specs.Refusals.{treeRefusals, formRefusals, cutRefusals, pairRefusals, tableCallRefusals, sheetRefusals}
+use Rattle.meaning.specs.Refusals.{treeRefusals, formRefusals, cutRefusals, pairRefusals, tableCallRefusals, sheetRefusals, sheetCallRefusals}
 use Rattle.meaning.specs.Grammar.{OneText, TableText}
 use Rattle.meaning.specs.Listing.{Pair, Listing, At, treeOf}
 use Rattle.meaning.specs.Loops.{pairsOf}
 use Rattle.meaning.specs.Decide.{apart?}
-use Rattle.meaning.specs.Answer.{Answer, accepted, refusal, Outcome, TableMemory, GraphSize, GraphMemory, onward}
+use Rattle.meaning.specs.Answer.{Answer, accepted, refusal, Outcome, TableMemory, GraphSize, GraphMemory, textOf, onward, conclude}
 use Rattle.meaning.specs.Calls.{enough, lent, limited, answered, formSlices, formRead, hasCut, cutSlices, cutRead, together, beside, pairRead, PairCall, is-apart, not-apart, tableRead, tableSlices, tableCallRead, graphSlices, graphRead, GraphCall, GraphBy, graphOf, lists}
-use Rattle.meaning.specs.Sheet.{Sheet, prints, sheet, refusalLine}
+use Rattle.meaning.specs.Sheet.{Sheet, prints, sheet, refusalLine, sheetSlices, sheetGiven, SheetCall, gives}
 use Rattle.meaning.proofs.Logic.{clash, cases}
 use Rattle.meaning.proofs.Lists.{one-of, Among, among}
 use Rattle.meaning.proofs.Decide.{apart-iff}
@@ -150,6 +150,10 @@ table-call-tells s memory = lent-table-tells (enough (tableSlices memory)) s
 pub graph-tells : (s : List ℕ) (memory : GraphMemory) → Tells (λ ts. AllGood ts × TableText ts s) (Line tableCallRefusals s) (graphRead s memory)
 graph-tells s memory = lent-table-tells (enough (graphSlices memory)) s
 
+-- the sheet call: what is printed; or line 7, of text 0 at place 0, as of a text without bytes
+pub sheet-call-tells : (x out : List ℕ) → Tells (λ y. y ≡ x) (Line sheetCallRefusals []) (sheetGiven x out)
+sheet-call-tells x out = lent-tells (enough (sheetSlices out)) (at-zero tt) (accepts refl)
+
 -- ---- every text has an outcome
 pub pair-exists : (s s′ : List ℕ) → (a : Answer Bool) × PairCall s s′ a
 pair-exists s s′ = by (pairRead s s′) refl
@@ -190,3 +194,6 @@ sheet-exists s = by (tableRead s) refl
     by : (a : Answer (List Tree)) → tableRead s ≡ a → (x : List ℕ) × Sheet s x
     by (accepted ts) e = (sheet ts (pairsIn ts), prints ts (pairsIn ts) e (pairs-listed ts (tells-accepted (table-tells s) e .0)))
     by (refusal n i p) e = (refusalLine n p, Sheet.refuses n i p e)
+
+pub sheet-call-exists : (s out : List ℕ) → (o : Outcome ℕ (List ℕ)) × SheetCall s out o
+sheet-call-exists s out = let (x, h) = sheet-exists s in (conclude (sheetGiven x out) out (λ y. textOf y out), gives x h)

@@ -1,6 +1,6 @@
 -- Each call's outcome is determined: two outcomes that its promise allows are equal, answer and memory.
 -- Assumes nothing.
-use mathlib.Core.Path.{_≡_, refl, sym, ap₂, subst, _∙_}
+use mathlib.Core.Path.{_≡_, refl, sym, ap, ap₂, subst, _∙_}
 use mathlib.Core.Bool.{Bool}
 use mathlib.Core.List.{List}
 use Prim.Native.Nat.{ℕ}
@@ -8,9 +8,9 @@ use lib.ListN.{length}
 use Rattle.meaning.specs.Tree.{Tree}
 use Rattle.meaning.specs.Move.{Apart}
 use Rattle.meaning.specs.Listing.{Pair, Listing, At}
-use Rattle.meaning.specs.Answer.{Answer, accepted, refusal, Outcome, TableSize, TableMemory, GraphSize, GraphMemory}
+use Rattle.meaning.specs.Answer.{Answer, accepted, refusal, Outcome, TableSize, TableMemory, GraphSize, GraphMemory, textOf, conclude}
 use Rattle.meaning.specs.Calls.{formCall, cutCall, PairCall, is-apart, not-apart, refuses, tableCall, GraphBy, lists, graphOf}
-use Rattle.meaning.specs.Sheet.{Sheet, prints, sheet, refusalLine}
+use Rattle.meaning.specs.Sheet.{Sheet, prints, sheet, refusalLine, sheetGiven, SheetCall, gives}
 use Rattle.meaning.proofs.Logic.{clash}
 use Rattle.meaning.proofs.Listing.{listing-unique}
 
@@ -65,3 +65,6 @@ sheet-determined (prints ts ps e L) (prints ts′ ps′ e′ L′) = let (h, k) 
 sheet-determined (prints ts ps e L) (Sheet.refuses n i p e′) = absurd (not-both e e′)
 sheet-determined (Sheet.refuses n i p e) (prints ts ps e′ L) = absurd (not-both e′ e)
 sheet-determined (Sheet.refuses n i p e) (Sheet.refuses n′ i′ p′ e′) = let (x, y, z) = same-refusal e e′ in ap₂ refusalLine x z
+
+pub sheet-call-determined : {s out : List ℕ} {o o′ : Outcome ℕ (List ℕ)} → SheetCall s out o → SheetCall s out o′ → o ≡ o′
+sheet-call-determined {out} (gives x h) (gives y k) = ap (λ (z : List ℕ). conclude (sheetGiven z out) out λ w. textOf w out) (sheet-determined h k)

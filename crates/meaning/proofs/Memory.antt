@@ -6,17 +6,18 @@ use Prim.Native.Nat.{ℕ, suc, _+_, _-_, _*_, _≤_}
 use native.Mathlib.Omega.{arith}
 use lib.ListN.{length, drop, length-append, length-drop}
 use lib.Seq.{drop-append-add, drop-drop}
-use Rattle.meaning.specs.Limits.{formBytes, forestBytes}
+use Rattle.meaning.specs.Limits.{formBytes, forestBytes, sheetBytes}
 use Rattle.meaning.specs.Tree.{Tree, AllGood, form, forms}
 use Rattle.meaning.specs.Move.{cutAt, forest}
 use Rattle.meaning.specs.Listing.{counts, flat}
 use Rattle.meaning.specs.Answer.{Answer, accepted, refusal, Outcome, TableMemory, GraphSize, GraphMemory, written, textOf, conclude}
 use Rattle.meaning.specs.Calls.{enough, lent, formCall, cutCall, tableRead, ends, tableSlices, tableCallRead, tableOf, tableCall, graphSlices, GraphBy, lists, GraphCall}
+use Rattle.meaning.specs.Sheet.{Sheet, SheetCall, gives}
 use Rattle.meaning.proofs.Length.{form-length, forest-length}
 use Rattle.meaning.proofs.Forests.{cutAt-good}
 use Rattle.meaning.proofs.Lent.{lent-ample}
 use Rattle.meaning.proofs.Counts.{counts-length, flat-few}
-use Rattle.meaning.proofs.Calls.{tells-accepted, form-tells, cut-tells, table-call-tells, graph-tells}
+use Rattle.meaning.proofs.Calls.{tells-accepted, form-tells, cut-tells, table-call-tells, graph-tells, sheet-call-tells}
 
 -- a slice keeps its length where what is written fits
 pub written-length : (xs slice : List ℕ) → length xs ≤ length slice → length (written xs slice) ≡ length slice
@@ -86,3 +87,7 @@ graph-memory s memory o (lists ts ps e L) =
     let r = tells-accepted (graph-tells s memory) e in
     let room = lent-ample (graphSlices memory) (tableRead s) e in
     (written-length (flat ps) (memory .pairs) (omega (arith, flat-few L (r .1 .few))), written-length (counts (length ts) ps) (memory .counts) (omega (arith, counts-length (length ts) ps)))
+
+-- where no sheet is longer than stated
+pub sheet-memory : {s out : List ℕ} {o : Outcome ℕ (List ℕ)} → ((x : List ℕ) → Sheet s x → length x ≤ sheetBytes) → SheetCall s out o → length (o .memory) ≡ length out
+sheet-memory {out} short (gives x h) = text-kept sheetBytes out (accepted x) (λ (y : List ℕ). y) (λ y e. rw (tells-accepted (sheet-call-tells x out) e) (short x h))

@@ -7,12 +7,13 @@ use mathlib.Core.List.{List}
 use Prim.Native.Nat.{ℕ, _-_, _*_, _≤_, _<_}
 use borrow.Author.Tests.{le-ltb}
 use lib.ListN.{length}
-use Rattle.meaning.specs.Limits.{textBytes, formBytes, forestBytes, maxTrees, tableBytes, pairNumbers}
+use Rattle.meaning.specs.Limits.{textBytes, formBytes, forestBytes, maxTrees, tableBytes, pairNumbers, sheetBytes}
 use Rattle.meaning.specs.Tree.{Tree, leaves}
 use Rattle.meaning.specs.Reading.{got, refused, byteAt, value, badLabel, labelAt, treeAt, readTree, sameLabels, tableFrom}
 use Rattle.meaning.specs.Prefix.{TooDeepAt}
-use Rattle.meaning.specs.Answer.{Answer, refusal, TableMemory, GraphMemory, onward, conclude}
+use Rattle.meaning.specs.Answer.{Answer, accepted, refusal, Outcome, TableMemory, GraphMemory, textOf, onward, conclude}
 use Rattle.meaning.specs.Calls.{answered, formSlices, formRead, hasCut, cutSlices, cutRead, beside, pairRead, tableRead, tableSlices, tableOf, tableCall, graphSlices, graphRead}
+use Rattle.meaning.specs.Sheet.{sheetSlices, SheetCall, gives}
 use Rattle.meaning.proofs.Lent.{seven, ample, eight, in-limit}
 use Rattle.meaning.proofs.Lines.{line-four-iff}
 use Rattle.meaning.proofs.Ways.{label-bad, table-full}
@@ -31,6 +32,9 @@ table-seven s memory h = ap (λ (a : Answer (List Tree)). conclude a memory λ t
 
 pub graph-seven : (s : List ℕ) (memory : GraphMemory) → (length (memory .pairs) < pairNumbers) ⊎ (length (memory .counts) < maxTrees) → graphRead s memory ≡ refusal 7 0 0
 graph-seven s memory h = seven (graphSlices memory) _ h
+
+pub sheet-seven : {s out : List ℕ} {o : Outcome ℕ (List ℕ)} → SheetCall s out o → length out < sheetBytes → o ≡ record { answer = refusal 7 0 0; memory = out }
+sheet-seven {out} (gives x h) l = ap (λ (a : Answer (List ℕ)). conclude a out λ y. textOf y out) (seven (sheetSlices out) (accepted x) l)
 
 -- 8 goes before any byte of the text
 module _ (s : List ℕ) (long : textBytes < length s) where

@@ -34,3 +34,7 @@ tableCallRefusals = tableRefusals ++ (7 ∷ 8 ∷ [])
 -- pair lister: nothing is lent
 abbrev pub sheetRefusals : List ℕ
 sheetRefusals = tableRefusals ++ (8 ∷ [])
+
+-- sheet call: a text's refusal is what it prints
+abbrev pub sheetCallRefusals : List ℕ
+sheetCallRefusals = 7 ∷ []

@@ -1,15 +1,16 @@
--- The pair lister's sheet, as bytes.
+-- The pair lister's sheet, as bytes, and the sheet call.
 -- Assumes nothing.
 use mathlib.Core.Path.{_≡_}
 use mathlib.Core.List.{List, [], _∷_, _++_}
 use Prim.Native.Nat.{ℕ, suc}
 use lib.ListN.{length}
+use Rattle.meaning.specs.Limits.{sheetBytes}
 use Rattle.meaning.specs.Bytes.{bytes}
 use Rattle.meaning.specs.Tree.{Tree, digits, form}
 use Rattle.meaning.specs.Move.{Apart}
 use Rattle.meaning.specs.Listing.{Pair, Listing, At, neighbours, unlinked}
-use Rattle.meaning.specs.Answer.{accepted, refusal}
-use Rattle.meaning.specs.Calls.{tableRead}
+use Rattle.meaning.specs.Answer.{Answer, accepted, refusal, Outcome, textOf, conclude}
+use Rattle.meaning.specs.Calls.{Slice, enough, lent, tableRead}
 
 -- every line ends in one LF
 abbrev pub line : List ℕ → List ℕ
@@ -57,3 +58,15 @@ refusalLine n p = twoFields (bytes "refused ") n (bytes " at ") p
 pub data Sheet (s : List ℕ) : List ℕ → Type 0 where
   prints : (ts : List Tree) (ps : List Pair) → tableRead s ≡ accepted ts → Listing (length ts) (At Apart ts) ps → Sheet s (sheet ts ps)
   refuses : (n i p : ℕ) → tableRead s ≡ refusal n i p → Sheet s (refusalLine n p)
+
+-- lent to the sheet call: 220,902 bytes
+abbrev pub sheetSlices : List ℕ → List Slice
+sheetSlices out = (sheetBytes, length out) ∷ []
+
+-- what the sheet call gives, of what is printed: line 7 is its only refusal
+abbrev pub sheetGiven : List ℕ → List ℕ → Answer (List ℕ)
+sheetGiven x out = lent (enough (sheetSlices out)) (accepted x)
+
+-- sheet call: what the pair lister prints, a refused text's line too
+pub data SheetCall (s out : List ℕ) : Outcome ℕ (List ℕ) → Type 0 where
+  gives : (x : List ℕ) → Sheet s x → SheetCall s out (conclude (sheetGiven x out) out λ y. textOf y out)

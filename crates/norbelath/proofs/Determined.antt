@@ -6,7 +6,8 @@ use mathlib.Core.List.{List}
 use Prim.Native.Nat.{ℕ, zero, suc}
 use Rattle.meaning.specs.Answer.{Answer, accepted, refusal, Outcome, TableSize, TableMemory, GraphSize, GraphMemory}
 use Rattle.meaning.specs.Calls.{PairCall, GraphCall}
-use Rattle.meaning.proofs.Determined.{pair-determined, graph-determined}
+use Rattle.meaning.specs.Sheet.{SheetCall}
+use Rattle.meaning.proofs.Determined.{pair-determined, graph-determined, sheet-call-determined}
 use Rattle.norbelath.specs.Coded.{coded, textValue, pairValue, tableValue, graphValue, textCoded, tableCoded, graphCoded}
 use Rattle.norbelath.specs.declared.Reply.{Reply}
 
@@ -63,6 +64,9 @@ module _ {r r′ x x′ y y′ : ℕ} where
         sym (text-back r x y) ∙ ap (λ (z : Outcome ℕ (List ℕ)). textNumbers (z .answer)) h ∙ text-back r′ x′ y′,
         ap (λ (z : Outcome ℕ (List ℕ)). z .memory) h,
       )
+
+  pub sheet-code-determined : {s out o o′ : List ℕ} → SheetCall s out (textCoded r x y o) → SheetCall s out (textCoded r′ x′ y′ o′) → (reply r x y ≡ reply r′ x′ y′) × (o ≡ o′)
+  sheet-code-determined e f = text-code-determined (sheet-call-determined e f) refl
 
   pub pair-code-determined : {s s′ : List ℕ} → PairCall s s′ (coded pairValue r x y) → PairCall s s′ (coded pairValue r′ x′ y′) → reply r x y ≡ reply r′ x′ y′
   pair-code-determined e f = sym (pair-back r x y) ∙ ap pairNumbers (pair-determined e f) ∙ pair-back r′ x′ y′

@@ -10,7 +10,8 @@ use Rattle.meaning.specs.Tree.{form}
 use Rattle.meaning.specs.Move.{cutAt, forest}
 use Rattle.meaning.specs.Answer.{Answer, Outcome, TableMemory, GraphSize, GraphMemory, textOf, conclude}
 use Rattle.meaning.specs.Calls.{formCall, cutCall, PairCall, is-apart, not-apart, tableOf, tableCall, GraphCall, GraphBy, lists}
-use Rattle.meaning.proofs.Calls.{Tells, accepts, denies, tells-refusal, form-tells, cut-tells, pair-tells, table-call-tells, graph-tells}
+use Rattle.meaning.specs.Sheet.{SheetCall, gives}
+use Rattle.meaning.proofs.Calls.{Tells, accepts, denies, tells-refusal, form-tells, cut-tells, pair-tells, table-call-tells, graph-tells, sheet-call-tells}
 use Rattle.meaning.proofs.Lists.{every-mem}
 use Rattle.norbelath.specs.Coded.{Numbered}
 
@@ -41,6 +42,9 @@ pair-numbered {s} {s′} (PairCall.refuses n i p e) = from-one tt (tells-refusal
 pub graph-numbered : {s : List ℕ} {memory : GraphMemory} {o : Outcome GraphSize GraphMemory} → GraphCall s memory o → Numbered (o .answer)
 graph-numbered (lists ts ps e L) = tt
 graph-numbered {s} {memory} (GraphBy.refuses n i p e) = from-one tt (tells-refusal (graph-tells s memory) e .number)
+
+pub sheet-numbered : {s out : List ℕ} {o : Outcome ℕ (List ℕ)} → SheetCall s out o → Numbered (o .answer)
+sheet-numbered {out} (gives x h) = concluded out (λ y. textOf y out) (sheet-call-tells x out) (λ n i p l. from-one tt (l .number)) (λ y. tt)
 
 -- the answer of an outcome that the definition gives
 pub numbered-as : {A M : Type 0} {o o′ : Outcome A M} → o ≡ o′ → Numbered (o′ .answer) → Numbered (o .answer)

@@ -12,7 +12,7 @@ coded value (suc n) x y = refusal (suc n) x y
 
 -- Numbers beside a result 0 that stand for no value are taken for a refusal 0, which no call gives: so no two codes are one answer.
 
--- the form call and the cut call: the bytes written, and 0
+-- the form call, the cut call and the sheet call: the bytes written, and 0
 abbrev pub textValue : ℕ → ℕ → Answer ℕ
 textValue x zero = accepted x
 textValue x (suc y) = refusal 0 x (suc y)

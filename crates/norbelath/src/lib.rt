@@ -1,4 +1,4 @@
-// The five calls for programs in C and Rust. None asks anything of its caller. Each answers by a result and two lent
+// The six calls for programs in C and Rust. None asks anything of its caller. Each answers by a result and two lent
 // numbers: `coded` in specs/ says which answer they are, and include/norbelath.h says it to a caller.
 use calls::GraphAnswer;
 use calls::PairAnswer;
@@ -7,6 +7,7 @@ use calls::TextAnswer;
 use reading::Refusal;
 ghost use mathlib.Core.Path.{_≡_};
 ghost use Rattle.meaning.specs.Calls.{formCall, cutCall, PairCall, tableCall, GraphCall};
+ghost use Rattle.meaning.specs.Sheet.{SheetCall};
 ghost use Rattle.calls.specs.Paper.{textAnswer, pairAnswer, tableAnswer, graphAnswer};
 ghost use Rattle.norbelath.specs.Coded.{coded, textValue, pairValue, tableValue, graphValue, textCoded, tableCoded, graphCoded, Numbered};
 
@@ -166,4 +167,17 @@ pub extern "C" fn norbelath_graph(
         first,
         second,
     )
+}
+
+// Sheet call: the numbers are the bytes written and 0.
+#[no_mangle]
+pub extern "C" fn norbelath_sheet(
+    text: &[u8],
+    out: &mut [u8],
+    first: &mut u64,
+    second: &mut u64,
+) -> u8
+    ensures { λ r. ⌜ SheetCall (now (text .entry)) (now (out .entry)) (textCoded r (now (first .exit)) (now (second .exit)) (now (out .exit))) ⌝ }
+{
+    hand_back(text_reply(calls::sheet_call(text, out)), first, second)
 }

@@ -1,4 +1,4 @@
--- What `sheet_of` promises determines the lent memory at exit and the number of bytes.
+-- What `print_sheet` and `sheet_of` promise determines the lent memory at exit and the number of bytes.
 -- Assumes nothing.
 use mathlib.Core.Path.{_≡_, sym, ap, _∙_}
 use mathlib.Core.List.{List}

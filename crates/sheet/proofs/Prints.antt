@@ -5,24 +5,19 @@ use mathlib.Core.List.{List}
 use Prim.Native.Nat.{ℕ, _+_, _≤_, _<_}
 use native.Mathlib.Omega.{arith}
 use borrow.Author.Tests.{lt-ltb, le-ltb}
-use lib.Dec.{leb, leb→le}
 use lib.ListN.{length, drop}
 use Rattle.meaning.specs.Limits.{textBytes, sheetBytes}
 use Rattle.meaning.specs.Tree.{Tree as Topology}
 use Rattle.meaning.specs.Reading.{refused, readTable}
 use Rattle.meaning.specs.Listing.{Pair}
-use Rattle.meaning.specs.Answer.{accepted, refusal, GraphMemory}
+use Rattle.meaning.specs.Answer.{accepted, GraphMemory}
 use Rattle.meaning.specs.Calls.{answered, tableRead}
 use Rattle.meaning.specs.Sheet.{Sheet, prints, sheet, refusalLine}
 use Rattle.meaning.proofs.Counts.{counts-length, flat-few}
-use Rattle.meaning.proofs.Lists.{every-mem}
-use Rattle.meaning.proofs.Places.{table-refused}
-use Rattle.meaning.proofs.Calls.{tells-refusal, table-tells}
 use Rattle.lent.specs.Runs.{Stands, Wrote}
 use Rattle.lent.proofs.Runs.{sets-start, wrote-length}
-use Rattle.held.specs.Kept.{KeepsAll}
+use Rattle.held.specs.Kept.{KeepsAll, KeptAll}
 use Rattle.held.specs.declared.Table.{Table}
-use Rattle.held.proofs.Kept.{keeps-good}
 use Rattle.reading.specs.Whole.{TableMeets}
 use Rattle.reading.specs.declared.Refusal.{Refusal}
 use Rattle.reading.specs.declared.Step.the-variants.{Next, Refused}
@@ -31,7 +26,7 @@ use Rattle.reading.proofs.Steps.{step-next, step-denied}
 use Rattle.graph.specs.Graph.{ListRoom, GraphWritten}
 use Rattle.sheet.specs.Lines.{TreesListed, PairsListed, SheetFits}
 use Rattle.sheet.specs.Printed.{TableFits, SheetWritten, Printed}
-use Rattle.sheet.proofs.Sizes.{refusal-short, sheet-short}
+use Rattle.sheet.proofs.Sizes.{sheet-fits}
 
 -- ---- a table whose pairs and neighbour counts were listed
 starts-with : {ys out o₁ : List ℕ} {r : ℕ} → Wrote ys out o₁ 0 r → length ys ≤ length out → Stands o₁ 0 ys
@@ -58,54 +53,45 @@ module _ {table : Table} {memory memory′ : GraphMemory} {m : ℕ} (room : List
   listed-wrote wrote ts h = record { linked = linked ts h; listing = g ts h .listing; wrote = wrote ts (linked ts h) (trees-listed ts h) (pairs-listed ts h) }
 
 -- ---- what is written from the start on
--- x is what is printed for s, and there is room for it
-pub record Ready (s out x : List ℕ) : Type 0 where
-  pub sheet : Sheet s x
-  pub room : 0 + length x ≤ length out
+module _ {s x : List ℕ} (out : List ℕ) (room : sheetBytes ≤ length out) (h : Sheet s x) where
+  pub print-room : 0 + length x ≤ length out
+  print-room = omega (arith, sheet-fits h)
 
-pub printed : {s out x out′ : List ℕ} {r : ℕ} → Ready s out x → Wrote x out out′ 0 r → Printed s out out′ r
-printed {out} {x} ready w = record {
-  bytes = x;
-  prints = ready .sheet;
-  many = omega (arith, w .behind);
-  room = omega (arith, w .behind, ready .room, wrote-length w);
-  memory = w .cells ∙ sets-start out x (omega (arith, ready .room));
-}
+  pub printed : {out′ : List ℕ} {r : ℕ} → Wrote x out out′ 0 r → Printed s out out′ r
+  printed w = record {
+    bytes = x;
+    prints = h;
+    many = omega (arith, w .behind);
+    room = omega (arith, w .behind, print-room, wrote-length w);
+    memory = w .cells ∙ sets-start out x (omega (arith, print-room));
+  }
 
--- the table keeps the trees of s, and there is room for their sheet
-pub record Taken (s : List ℕ) (table : Table) (len : ℕ) : Type 0 where
-  pub fits : TableFits table len
-  pub is : tableRead s ≡ accepted (fits .kept .trees)
+-- the table keeps the trees of s
+pub record Taken (s : List ℕ) (table : Table) : Type 0 where
+  pub kept : KeptAll table
+  pub is : tableRead s ≡ accepted (kept .trees)
 
-pub table-printed : {s out out′ : List ℕ} {table : Table} {len r : ℕ} → Taken s table len → length out ≡ len → ((ts : List Topology) → KeepsAll table ts → SheetWritten ts out out′ r) → Printed s out out′ r
-table-printed T same wrote =
-    let k = T .fits .kept in
+pub table-printed : {s out′ : List ℕ} {table : Table} {r : ℕ} (out : List ℕ) → sheetBytes ≤ length out → Taken s table → ((ts : List Topology) → KeepsAll table ts → SheetWritten ts out out′ r) → Printed s out out′ r
+table-printed out room T wrote =
+    let k = T .kept in
     let w = wrote (k .trees) (k .keeps) in
-    let short = sheet-short (k .trees) (w .linked) (keeps-good (k .keeps)) (w .listing) (k .keeps .few) in
-    printed (record { sheet = prints (k .trees) (w .linked) (T .is) (w .listing); room = omega (arith, T .fits .room, short) }) (w .wrote)
+    printed out room (prints (k .trees) (w .linked) (T .is) (w .listing)) (w .wrote)
 
--- ---- the ways through a text, with enough lent
-module _ (s out : List ℕ) (lent : length out ≡ sheetBytes) where
-  refusal-ready : (n p : ℕ) → tableRead s ≡ refusal n 0 p → n ≤ 8 → p ≤ textBytes → Ready s out (refusalLine n p)
-  refusal-ready n p e small place = record { sheet = Sheet.refuses n 0 p e; room = omega (arith, refusal-short n p (omega arith) (omega arith)) }
+-- ---- the ways through a text
+-- the line of a text that is too long
+pub long-sheet : (s : List ℕ) (n : ℕ) → n ≡ 8 → textBytes < length s → Sheet s (refusalLine n 0)
+long-sheet s n e long = Sheet.refuses n 0 0 (rw (lt-ltb textBytes (length s) long, e))
 
-  -- the line of a text that is too long
-  pub long-ready : (n : ℕ) → n ≡ 8 → textBytes < length s → Ready s out (refusalLine n 0)
-  long-ready n e long = refusal-ready n 0 (rw (lt-ltb textBytes (length s) long, e)) (omega arith) (omega arith)
+module _ (s : List ℕ) (short : length s ≤ textBytes) {read : TableRead} (m : TableMeets read (readTable s)) where
+  whole-read : tableRead s ≡ answered 0 (readTable s)
+  whole-read = rw (le-ltb textBytes (length s) short)
 
-  module _ (short : length s ≤ textBytes) {read : TableRead} (m : TableMeets read (readTable s)) where
-    whole-read : tableRead s ≡ answered 0 (readTable s)
-    whole-read = rw (le-ltb textBytes (length s) short)
+  -- the line of a text that reading refuses
+  pub refused-sheet : {x : Refusal} → read .step ≡ Refused x → (n : ℕ) → n ≡ x .number → Sheet s (refusalLine n (x .place))
+  refused-sheet {x} e n number =
+      let stops : readTable s ≡ refused n (x .place) = rw number (step-denied m e .0) in
+      Sheet.refuses n 0 (x .place) (whole-read ∙ ap (answered 0) stops)
 
-    -- the line of a text that reading refuses
-    pub refused-ready : {x : Refusal} → read .step ≡ Refused x → (n : ℕ) → n ≡ x .number → Ready s out (refusalLine n (x .place))
-    refused-ready {x} e n number =
-        let stops : readTable s ≡ refused n (x .place) = rw number (step-denied m e .0) in
-        let denied : tableRead s ≡ refusal n 0 (x .place) = whole-read ∙ ap (answered 0) stops in
-        refusal-ready n (x .place) denied (leb→le n 8 (every-mem (λ (m : ℕ). leb m 8) tt (table-refused s n (x .place) stops .line))) (omega (arith, tells-refusal (table-tells s) denied .place))
-
-    -- the table of a text that reading accepts
-    pub table-taken : {p k : ℕ} → read .step ≡ Next p k → Taken s (read .table) (length out)
-    table-taken e =
-        let A = step-next m e in
-        record { fits = record { kept = record { trees = A .value; keeps = A .keeps }; room = omega arith }; is = whole-read ∙ ap (answered 0) (A .is) }
+  -- the table of a text that reading accepts
+  pub table-taken : {p k : ℕ} → read .step ≡ Next p k → Taken s (read .table)
+  table-taken e = let A = step-next m e in record { kept = record { trees = A .value; keeps = A .keeps }; is = whole-read ∙ ap (answered 0) (A .is) }

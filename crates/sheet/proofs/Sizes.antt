@@ -1,17 +1,25 @@
--- The longest sheet: numbers below 1000 and 100,000 have at most three and five digits, and a canonical text at most 309 bytes.
+-- The longest sheet: numbers below 1000 and 100,000 have at most three and five digits, and a canonical text at most 309 bytes. So what is printed fits into what is lent.
 -- Assumes nothing.
-use mathlib.Core.Path.{ap}
+use mathlib.Core.Path.{_≡_, ap}
 use mathlib.Core.List.{List}
 use Prim.Native.Nat.{ℕ, zero, suc, _*_, _/_, _≤_, _<_}
 use native.Mathlib.Omega.{arith}
 use native.Mathlib.Decide.{decLe}
+use lib.Dec.{leb, leb→le}
 use lib.ListN.{length, length-append}
-use Rattle.meaning.specs.Limits.{maxTrees, firstLineBytes, treeLineBytes, pairLineBytes, sheetBytes}
+use Rattle.meaning.specs.Limits.{textBytes, maxTrees, firstLineBytes, treeLineBytes, pairLineBytes, sheetBytes}
 use Rattle.meaning.specs.Bytes.{bytes}
 use Rattle.meaning.specs.Tree.{Tree as Topology, digits, AllGood}
 use Rattle.meaning.specs.Move.{Apart}
 use Rattle.meaning.specs.Listing.{Pair, Listing, At, neighbours, unlinked}
-use Rattle.meaning.specs.Sheet.{firstLine, treeLineOf, treeLines, pairLine, pairLines, sheet, refusalLine}
+use Rattle.meaning.specs.Answer.{refusal, Outcome}
+use Rattle.meaning.specs.Calls.{tableRead}
+use Rattle.meaning.specs.Sheet.{firstLine, treeLineOf, treeLines, pairLine, pairLines, sheet, refusalLine, Sheet, prints, SheetCall}
+use Rattle.meaning.proofs.Lists.{every-mem}
+use Rattle.meaning.proofs.Lent.{eight}
+use Rattle.meaning.proofs.Calls.{tells-accepted, tells-refusal, table-tells}
+use Rattle.meaning.proofs.Determined.{same-refusal}
+use Rattle.meaning.proofs.Memory.{sheet-memory}
 use Rattle.meaning.proofs.Counts.{neighbours-le, listing-few}
 use Rattle.meaning.proofs.Digits.{digits-one}
 use Rattle.meaning.proofs.Length.{form-length}
@@ -43,7 +51,7 @@ five n h = digits-few 4 n h
 first-short : (k m : ℕ) → k ≤ maxTrees → m ≤ 12720 → length (firstLine k m) ≤ firstLineBytes
 first-short k m h l = omega (arith, two-length (bytes "trees ") k (bytes " pairs ") m, three k (omega arith), five m (omega arith))
 
-pub refusal-short : (n p : ℕ) → n < 1000 → p < 100000 → length (refusalLine n p) ≤ 21
+refusal-short : (n p : ℕ) → n < 1000 → p < 100000 → length (refusalLine n p) ≤ 21
 refusal-short n p h l = omega (arith, two-length (bytes "refused ") n (bytes " at ") p, three n h, five p l)
 
 pair-short : (i j : ℕ) → i < 1000 → j < 1000 → length (pairLine i j) ≤ pairLineBytes
@@ -67,3 +75,22 @@ module _ (ts : List Topology) (ps : List Pair) (G : AllGood ts) (L : Listing (le
   pub sheet-short : length (sheet ts ps) ≤ sheetBytes
   unfolding sheet
   sheet-short = simp length-append (omega (arith, first-short (length ts) (length ps) few (listing-few L few), trees-short, pairs-short, listing-few L few))
+
+-- a refusal's place is 0 where the text is too long, and else in the text or its end
+place-short : (s : List ℕ) {n i p : ℕ} → tableRead s ≡ refusal n i p → p ≤ textBytes
+place-short s {p} e = by (decLe (length s) textBytes)
+  where
+    by : Dec (length s ≤ textBytes) → p ≤ textBytes
+    by (yes h) = omega (arith, tells-refusal (table-tells s) e .place)
+    by (no h) = omega (arith, same-refusal (eight 0 s _ (omega arith)) e .2)
+
+-- what is printed for any text
+pub sheet-fits : {s x : List ℕ} → Sheet s x → length x ≤ sheetBytes
+sheet-fits {s} (prints ts ps e L) = let r = tells-accepted (table-tells s) e in sheet-short ts ps (r .0) L (r .1 .few)
+sheet-fits {s} (Sheet.refuses n i p e) =
+    let small = leb→le n 8 (every-mem (λ (m : ℕ). leb m 8) tt (tells-refusal (table-tells s) e .number)) in
+    omega (arith, refusal-short n p (omega arith) (omega (arith, place-short s e)))
+
+-- so the sheet call keeps the length of what it is lent
+pub sheet-kept : {s out : List ℕ} {o : Outcome ℕ (List ℕ)} → SheetCall s out o → length (o .memory) ≡ length out
+sheet-kept h = sheet-memory (λ x p. sheet-fits p) h

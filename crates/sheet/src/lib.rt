@@ -4,7 +4,9 @@ use held::Tree;
 use reading::Refusal;
 use reading::Step;
 ghost use mathlib.Core.List.{List};
+ghost use Prim.Native.Nat.{_≤_};
 ghost use lib.ListN.{length};
+ghost use Rattle.meaning.specs.Limits.{sheetBytes};
 ghost use Rattle.meaning.specs.Tree.{Tree as Topology};
 ghost use Rattle.meaning.specs.Listing.{Pair};
 ghost use Rattle.meaning.specs.Sheet.{treeLines, pairLines, sheet};
@@ -87,7 +89,8 @@ fn write_table_sheet(out: &mut [u8], table: Table) -> usize
 }
 
 // Writes what the pair lister prints for the text s from the start of `out` on; returns the number of its bytes.
-pub fn sheet_of(s: &[u8], out: &mut [u8; Sheet::MAX_BYTES]) -> usize
+pub fn print_sheet(s: &[u8], out: &mut [u8]) -> usize
+    requires { ⌜ sheetBytes ≤ length (now out) ⌝ }
     ensures { λ r. ⌜ Printed (now (s .entry)) (now (out .entry)) (now (out .exit)) r ⌝ }
 {
     if Tree::TEXT_BYTES < s.len() {
@@ -99,4 +102,11 @@ pub fn sheet_of(s: &[u8], out: &mut [u8; Sheet::MAX_BYTES]) -> usize
         return write_table_sheet(out, read.table);
     };
     writing::write_refusal(out, 0, lent::wide(refusal.number), refusal.place)
+}
+
+// The same, in memory of the stated size.
+pub fn sheet_of(s: &[u8], out: &mut [u8; Sheet::MAX_BYTES]) -> usize
+    ensures { λ r. ⌜ Printed (now (s .entry)) (now (out .entry)) (now (out .exit)) r ⌝ }
+{
+    print_sheet(s, out)
 }

@@ -1,7 +1,8 @@
 //! Each call beside the independent implementation: its answer, and what it leaves in lent memory.
 
 use norbelath::{Graph, GraphSize, Refusal, Table, TableSize};
-use norbelath::{CUT_OUT, FORM_OUT, GRAPH_COUNTS, GRAPH_PAIRS, TABLE_ENDS, TABLE_TEXTS};
+use norbelath::{CUT_OUT, FORM_OUT, GRAPH_COUNTS, GRAPH_PAIRS};
+use norbelath::{SHEET_OUT, TABLE_ENDS, TABLE_TEXTS};
 
 use crate::generator::Random;
 
@@ -107,6 +108,15 @@ impl Comparison {
         );
         self.text_call(CUT_OUT, text, expected, |out| {
             norbelath::cut_into(text, cut, out)
+        });
+    }
+
+    /// A text that is refused has its sheet too.
+    pub fn sheet(&mut self, text: &[u8]) {
+        let expected = plain::sheet(text);
+        assert_eq!(norbelath::sheet(text), expected, "{}", shown(text));
+        self.text_call(SHEET_OUT, text, Ok(expected), |out| {
+            norbelath::sheet_into(text, out)
         });
     }
 

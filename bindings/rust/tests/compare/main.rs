@@ -181,6 +181,33 @@ fn tables_of_trees() {
     compare.met("tables of trees", &least);
 }
 
+/// What the pair lister prints: small tables, whole and damaged, the largest, and texts around the limit.
+#[test]
+fn sheets() {
+    let mut compare = Comparison::new(11);
+    for text in every_text(b",;1 0", 3) {
+        compare.sheet(&text);
+    }
+    for turn in 0..200 {
+        let mut tree = random_tree(&mut compare.random, 7);
+        let mut text = Vec::new();
+        for _ in 0..[3, 20, MAX_TREES, MAX_TREES + 1][turn % 4] {
+            text.extend(tree.text(&mut compare.random, 2));
+            tree = tree.moved(&mut compare.random);
+        }
+        if turn % 3 == 2 {
+            damage(&mut compare.random, &mut text);
+        }
+        compare.sheet(&text);
+    }
+    let labels: Vec<u8> = (1..=64).collect();
+    let largest = Tree::random(&mut compare.random, &labels).text(&mut compare.random, 0);
+    compare.sheet(&largest.repeat(MAX_TREES));
+    compare.sheet(&[b' '; MAX_TEXT]);
+    compare.sheet(&[b' '; MAX_TEXT + 1]);
+    compare.met("sheets", &[(0, 350), (7, 350)]);
+}
+
 /// A full table of the largest trees, each one move from the one before. Then a byte behind it.
 #[test]
 fn full_table() {
