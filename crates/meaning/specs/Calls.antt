@@ -1,4 +1,4 @@
--- Five of the six calls (the sixth is in Sheet): from the texts, the cut number and the lent memory at entry to the answer and the memory at exit.
+-- Five of the six calls (the sixth is in Sheet): from the texts, the cut number and the lent memory at entry to the answer and the memory at exit. In words: docs/RULES.md, 'The six calls'.
 -- Assumes nothing.
 use mathlib.Core.Path.{_≡_}
 use mathlib.Core.Bool.{Bool, true, false, cond}

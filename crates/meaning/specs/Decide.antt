@@ -1,4 +1,4 @@
--- Tests that compute: distinct labels, the same topology, one move apart.
+-- Tests that compute: distinct labels, the same topology, one move apart. In words: docs/RULES.md, 'Topology and canonical text' and 'The move'.
 -- Assumes nothing.
 use mathlib.Core.Bool.{Bool, false, not, _&&_}
 use Prim.Native.Nat.{ℕ}

@@ -1,4 +1,4 @@
--- The tree text of document 01 as a grammar: which texts are a tree's or a table's, with no word on how they are read.
+-- The tree text of document 01 as a grammar: which texts are a tree's or a table's, with no word on how they are read. In words: docs/RULES.md, 'Tree text'.
 -- Assumes nothing.
 use mathlib.Core.Path.{_≡_}
 use mathlib.Core.Bool.{Bool, true, false}

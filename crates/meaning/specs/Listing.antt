@@ -1,4 +1,4 @@
--- The listing of a table's pairs, neighbour counts and unlinked numbers.
+-- The listing of a table's pairs, neighbour counts and unlinked numbers. In words: docs/RULES.md, 'Tables and counts'.
 -- Assumes nothing.
 use mathlib.Core.Path.{_≡_}
 use mathlib.Core.Logic.{_↔_, _⊎_}

@@ -1,4 +1,4 @@
--- Where a line of the refusal list is met: what stands before the place and at it, with no word on how a text is read.
+-- Where a line of the refusal list is met: what stands before the place and at it, with no word on how a text is read. In words: docs/RULES.md, 'Refusals'.
 -- Assumes nothing.
 use mathlib.Core.Path.{_≡_}
 use mathlib.Core.Bool.{true, false}

@@ -1,4 +1,4 @@
--- The tree text of document 01: what reading gives, for every list of bytes.
+-- The tree text of document 01: what reading gives, for every list of bytes. In words: docs/RULES.md, 'Tree text' and 'Refusals'.
 -- Assumes nothing.
 use mathlib.Core.Bool.{Bool, true, false, cond, _&&_, _||_}
 use mathlib.Core.List.{List, [], _∷_, _++_}

@@ -1,4 +1,4 @@
--- Which lines of the refusal list each reader and each call can refuse by.
+-- Which lines of the refusal list each reader and each call can refuse by. In words: docs/RULES.md, 'Refusals'.
 -- Assumes nothing.
 use mathlib.Core.List.{List, [], _∷_, _++_}
 use Prim.Native.Nat.{ℕ}

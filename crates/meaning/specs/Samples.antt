@@ -1,4 +1,4 @@
--- The starred samples of document 01, and what each claims.
+-- The starred samples of document 01, and what each claims. docs/RULES.md says what document 01 is.
 -- Assumes nothing.
 use mathlib.Core.Path.{_≡_}
 use mathlib.Core.Bool.{true, false}

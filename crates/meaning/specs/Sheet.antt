@@ -1,4 +1,4 @@
--- The pair lister's sheet, as bytes, and the sheet call.
+-- The pair lister's sheet, as bytes, and the sheet call. In words: docs/RULES.md, 'The sheet'.
 -- Assumes nothing.
 use mathlib.Core.Path.{_≡_}
 use mathlib.Core.List.{List, [], _∷_, _++_}

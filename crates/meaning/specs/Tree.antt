@@ -1,4 +1,4 @@
--- Rooted binary trees, their topology and their canonical text.
+-- Rooted binary trees, their topology and their canonical text. In words: docs/RULES.md, 'Topology and canonical text'.
 -- Assumes nothing.
 use mathlib.Core.Bool.{cond}
 use mathlib.Core.List.{List, [], _∷_, _++_}
