@@ -40,8 +40,10 @@ module _ (s : List ℕ) (memory : GraphMemory) {r : TableRead} (m : TableLent r 
         let g = w ts (read .keeps) in
         let ps = g .linked in
         let room = graph-room .room in
-        let b : memory′ .pairs ≡ written (flat ps) (memory .pairs) = g .in-pairs .cells ∙ sets-start (memory .pairs) (flat ps) (omega (arith, flat-few (g .listing) (read .keeps .few), room .pairs-room)) in
-        let c : memory′ .counts ≡ written (counts (length ts) ps) (memory .counts) = g .in-counts .cells ∙ sets-start (memory .counts) (counts (length ts) ps) (omega (arith, counts-length (length ts) ps, read .keeps .few, room .counts-room)) in
+        let b : memory′ .pairs ≡ written (flat ps) (memory .pairs) =
+        g .in-pairs .cells ∙ sets-start (memory .pairs) (flat ps) (omega (arith, flat-few (g .listing) (read .keeps .few), room .pairs-room)) in
+        let c : memory′ .counts ≡ written (counts (length ts) ps) (memory .counts) =
+        g .in-counts .cells ∙ sets-start (memory .counts) (counts (length ts) ps) (omega (arith, counts-length (length ts) ps, read .keeps .few, room .counts-room)) in
         subst (λ (o : Outcome GraphSize GraphMemory). GraphCall s memory o)
         (same k (length ts) n (length ps) (memory′ .pairs) (written (flat ps) (memory .pairs)) (memory′ .counts) (written (counts (length ts) ps) (memory .counts)) (read .count) (g .many) b c)
         (lists ts ps (read .is) (g .listing))

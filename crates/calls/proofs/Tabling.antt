@@ -123,9 +123,11 @@ module _ (s : List ℕ) (memory : TableMemory) {r : TableRead} (m : TableLent r 
         let ts = read .value in
         let v = w ts (read .keeps) in
         let a : n ≡ length (forms ts) = v .0 .behind ∙ zero-add (length (forms ts)) in
-        let b : memory′ .texts ≡ written (forms ts) (memory .texts) = v .0 .cells ∙ sets-start (memory .texts) (forms ts) (omega (arith, forms-length ts (keeps-good (read .keeps)), read .keeps .few, call-room .texts-room)) in
+        let b : memory′ .texts ≡ written (forms ts) (memory .texts) =
+        v .0 .cells ∙ sets-start (memory .texts) (forms ts) (omega (arith, forms-length ts (keeps-good (read .keeps)), read .keeps .few, call-room .texts-room)) in
         let c : memory′ .ends ≡ written (ends 0 ts) (memory .ends) = v .1 .cells ∙ sets-start (memory .ends) (ends 0 ts) (omega (arith, ends-length 0 ts, read .keeps .few, call-room .ends-room)) in
-        same n (length (forms ts)) k (length ts) (memory′ .texts) (written (forms ts) (memory .texts)) (memory′ .ends) (written (ends 0 ts) (memory .ends)) a (read .count) b c ∙ concluded memory (λ us. tableOf us memory) (read .is)
+        same n (length (forms ts)) k (length ts) (memory′ .texts) (written (forms ts) (memory .texts)) (memory′ .ends) (written (ends 0 ts) (memory .ends)) a (read .count) b c ∙
+        concluded memory (λ us. tableOf us memory) (read .is)
       where
         same : (n n′ k k′ : ℕ) (x x′ y y′ : List ℕ) → n ≡ n′ → k ≡ k′ → x ≡ x′ → y ≡ y′ → tableOutcome (Written n k) x y ≡ record { answer = accepted (record { bytes = n′; trees = k′ }); memory = record { texts = x′; ends = y′ } }
         same n n′ k k′ x x′ y y′ a b c d = rw (a, b, c, d)

@@ -70,7 +70,8 @@ module _ (t : Topology) (c count : ℕ) (out : List ℕ) (size : count ≡ nodes
   pub no-such-cut : {x : Refusal} → count - 1 ≤ c → x ≡ record { number = 9; text = 0; place = 0 } → textOutcome (Refused x) out ≡ cutText t c out
   no-such-cut h e = rw (e, le-ltb c (2 * leaves t - 2) (omega (arith, twice t)))
 
-  pub cut-written : {tree : Tree} {out′ : List ℕ} {r : ℕ} → Keeps tree t → forestBytes ≤ length out → c < count - 1 → Wrote (forest (cutAt t c)) out out′ 0 r → textOutcome (Written r) out′ ≡ cutText t c out
+  pub cut-written : {tree : Tree} {out′ : List ℕ} {r : ℕ} → Keeps tree t → forestBytes ≤ length out → c < count - 1
+      → Wrote (forest (cutAt t c)) out out′ 0 r → textOutcome (Written r) out′ ≡ cutText t c out
   cut-written k room h w =
       let l : c < 2 * leaves t - 2 = omega (arith, twice t) in
       wrote-text w (omega (arith, forest-length (cutAt t c) (cutAt-good (k .good) c l))) ∙ rw (lt-ltb c (2 * leaves t - 2) l)

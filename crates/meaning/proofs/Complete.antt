@@ -158,7 +158,8 @@ new-second a b seen G N l i =
     ∙ rw (N l (In.second i)) (cases (λ d. d ≡ false) (member l (labels a)) (λ e. absurd (G .distinct .2 l (labels-in a (member-in l (labels a) e)) i)) (λ e. refl))
 
 -- a node text is read, where enough brackets may open, no label was seen and no digit follows a label
-pub complete : {t : Tree} {x : List ℕ} → NodeText t x → (room : ℕ) (s : List ℕ) (p : ℕ) (seen rest : List ℕ) → depth t ≤ room → Good t → New t seen → ((v : ℕ) → t ≡ leaf v → isDigit (getD rest 0 0) ≡ false) → drop p s ≡ x ++ rest
+pub complete : {t : Tree} {x : List ℕ} → NodeText t x → (room : ℕ) (s : List ℕ) (p : ℕ) (seen rest : List ℕ)
+    → depth t ≤ room → Good t → New t seen → ((v : ℕ) → t ≡ leaf v → isDigit (getD rest 0 0) ≡ false) → drop p s ≡ x ++ rest
     → readNode room s p seen ≡ got t (p + length x)
 unfolding depth isDigit
 complete (is-label {v} w blank R) room s p seen rest d G N stop here = label-read R w blank s p rest (stop v refl) here room seen N
@@ -172,7 +173,8 @@ pub tree-complete : {t : Tree} {x : List ℕ} → TreeText t x → (s : List ℕ
 unfolding treeAt isBlank isDigit member
 tree-complete (is-tree {x} {y} N S G d) s p rest here =
     let h : drop p s ≡ x ++ (y ++ rest) = here ∙ append-assoc x y rest in
-    rw (complete N maxOpen s p [] (y ++ rest) d G (λ l i. refl) (λ v e. token-no-digit S rest refl) h) (token-read S s (p + length x) rest refl (at-next s p x (y ++ rest) h) _ ∙ rw (length-append, add-assoc))
+    rw (complete N maxOpen s p [] (y ++ rest) d G (λ l i. refl) (λ v e. token-no-digit S rest refl) h)
+    (token-read S s (p + length x) rest refl (at-next s p x (y ++ rest) h) _ ∙ rw (length-append, add-assoc))
 
 -- where only blanks are left, they are skipped to the end
 pub blanks-end : (s : List ℕ) (p : ℕ) (w : List ℕ) → All isBlank w → drop p s ≡ w → skip s p ≡ p + length w

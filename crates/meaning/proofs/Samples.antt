@@ -72,7 +72,12 @@ samples-hold =
     and (λ out h. rw (le-leb forestBytes (length out) h))
     and is-apart _ _ refl (near _ _ tt tt tt)
     and (_, _, refl, refl)
-    and (λ memory h k. (two, refl, lists two ((0, 1) ∷ []) (rw (le-leb pairNumbers (length (memory .pairs)) h, le-leb maxTrees (length (memory .counts)) k)) (listed two ((0, 1) ∷ []) (tt, (tt, tt)) refl)))
+    and (λ memory h k. (
+      two,
+      refl,
+      lists two ((0, 1) ∷ [])
+          (rw (le-leb pairNumbers (length (memory .pairs)) h, le-leb maxTrees (length (memory .counts)) k)) (listed two ((0, 1) ∷ []) (tt, (tt, tt)) refl),
+    ))
     and not-apart _ _ refl (far _ _ tt tt tt)
     and not-apart _ _ refl (far _ _ tt tt tt)
     and tt

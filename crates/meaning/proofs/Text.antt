@@ -70,7 +70,8 @@ pub forest-canon : (c d : Cut) → Good (parts c) → Good (parts d) → forest 
 forest-canon c d G H e =
     let p : List ℕ = write (canon (c .pruned)) ++ (59 ∷ []) in
     let q : List ℕ = write (canon (d .pruned)) ++ (59 ∷ []) in
-    let (i, j) = write-read (canon (c .rest)) (canon (d .rest)) (32 ∷ p) (32 ∷ q) (canon-good (good-second G) .small) (canon-good (good-second H) .small) (omega arith) (omega arith) (simp append-assoc at e) in
+    let (i, j) = write-read (canon (c .rest)) (canon (d .rest)) (32 ∷ p) (32 ∷ q)
+    (canon-good (good-second G) .small) (canon-good (good-second H) .small) (omega arith) (omega arith) (simp append-assoc at e) in
     let k : p ≡ q = cc j in
     (i, write-read (canon (c .pruned)) (canon (d .pruned)) (59 ∷ []) (59 ∷ []) (canon-good (good-first G) .small) (canon-good (good-first H) .small) (omega arith) (omega arith) k .0)
 

@@ -98,7 +98,8 @@ module _ {A : Type 0} {P : A → ℕ → Type 0} {Q : ℕ → ℕ → Type 0} wh
       → Gives P Q (token b s p next)
   unfolding token
   token-gives b s p next wrong goes-on =
-      cases (λ d. Gives P Q (orWrong d (skip s p) (λ q. next (q + 1)))) (eqb (byteAt s (skip s p)) b) (λ e. goes-on (eqb-true (byteAt s (skip s p)) b e)) (λ e. refuses (wrong (eqb-differs (byteAt s (skip s p)) b e)))
+      cases (λ d. Gives P Q (orWrong d (skip s p) (λ q. next (q + 1)))) (eqb (byteAt s (skip s p)) b)
+      (λ e. goes-on (eqb-true (byteAt s (skip s p)) b e)) (λ e. refuses (wrong (eqb-differs (byteAt s (skip s p)) b e)))
 
 -- more is known of what was read, or of a refusal
 pub gives-map : {A : Type 0} {P P′ : A → ℕ → Type 0} {Q Q′ : ℕ → ℕ → Type 0} {r : Read A} → ((a : A) (p : ℕ) → P a p → P′ a p) → ((n p : ℕ) → Q n p → Q′ n p) → Gives P Q r → Gives P′ Q′ r

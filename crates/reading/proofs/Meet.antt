@@ -61,7 +61,8 @@ pub record Checked (s : List ℕ) (q : ℕ) (node : List ℕ) (at v : ℕ) (foun
   pub same : v ≡ value s q
   pub held : member (value s q) (seen node at) ≡ found
 
-pub checked : (s : List ℕ) (q : ℕ) (node : List ℕ) (at v : ℕ) (found : Bool) → badLabel (byteAt s q) (value s q) ≡ false → v ≡ min 65 (value s q) → found ≡ member v (take at node) → Checked s q node at v found
+pub checked : (s : List ℕ) (q : ℕ) (node : List ℕ) (at v : ℕ) (found : Bool)
+    → badLabel (byteAt s q) (value s q) ≡ false → v ≡ min 65 (value s q) → found ≡ member v (take at node) → Checked s q node at v found
 checked s q node at v found f e m =
     let (l, h) = label-range _ _ f in
     let z : v ≡ value s q = omega arith in

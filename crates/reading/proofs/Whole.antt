@@ -61,7 +61,10 @@ module _ (s : List ℕ) (p : ℕ) {node : List ℕ} {r : Step} (m : Meets blank-
     read-stands : Holds node 0 (read .value)
     read-stands = record {
       small = good .small;
-      stands = (drop (length (pre (read .value))) blank-draft, read .keeps ∙ sets-start blank-draft (pre (read .value)) (omega (arith, length-pre (read .value), small-enough, length-replicate {A = ℕ} draftBytes 0)));
+      stands = (
+        drop (length (pre (read .value))) blank-draft,
+        read .keeps ∙ sets-start blank-draft (pre (read .value)) (omega (arith, length-pre (read .value), small-enough, length-replicate {A = ℕ} draftBytes 0)),
+      );
     }
 
     pub read-holds : Room nodes node 0 127

@@ -48,7 +48,8 @@ module _ {table : Table} {memory memory′ : GraphMemory} {m : ℕ} (room : List
       let k = f .kept in
       record { trees = k .trees; linked = linked (k .trees) (k .keeps); trees-listed = trees-listed (k .trees) (k .keeps); pairs-listed = pairs-listed (k .trees) (k .keeps); room = f .room }
 
-  pub listed-wrote : {out out′ : List ℕ} {r : ℕ} → ((ts : List Topology) (ps : List Pair) → TreesListed table (memory′ .counts) ts ps → PairsListed (memory′ .pairs) m ps → Wrote (sheet ts ps) out out′ 0 r)
+  pub listed-wrote : {out out′ : List ℕ} {r : ℕ}
+      → ((ts : List Topology) (ps : List Pair) → TreesListed table (memory′ .counts) ts ps → PairsListed (memory′ .pairs) m ps → Wrote (sheet ts ps) out out′ 0 r)
       → (ts : List Topology) → KeepsAll table ts → SheetWritten ts out out′ r
   listed-wrote wrote ts h = record { linked = linked ts h; listing = g ts h .listing; wrote = wrote ts (linked ts h) (trees-listed ts h) (pairs-listed ts h) }
 
@@ -71,7 +72,8 @@ pub record Taken (s : List ℕ) (table : Table) : Type 0 where
   pub kept : KeptAll table
   pub is : tableRead s ≡ accepted (kept .trees)
 
-pub table-printed : {s out′ : List ℕ} {table : Table} {r : ℕ} (out : List ℕ) → sheetBytes ≤ length out → Taken s table → ((ts : List Topology) → KeepsAll table ts → SheetWritten ts out out′ r) → Printed s out out′ r
+pub table-printed : {s out′ : List ℕ} {table : Table} {r : ℕ} (out : List ℕ) → sheetBytes ≤ length out
+    → Taken s table → ((ts : List Topology) → KeepsAll table ts → SheetWritten ts out out′ r) → Printed s out out′ r
 table-printed out room T wrote =
     let k = T .kept in
     let w = wrote (k .trees) (k .keeps) in

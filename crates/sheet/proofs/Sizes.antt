@@ -64,7 +64,14 @@ module _ (ts : List Topology) (ps : List Pair) (G : AllGood ts) (L : Listing (le
       rw trees-rows (rows-length (treeLineOf k ps) treeLineBytes 0 ts λ i t m h.
       let inside : i < k = omega arith in
       let n = neighbours-le L i inside in
-      omega (arith, tree-length i (neighbours ps i) (unlinked k (neighbours ps i)) t, three i (omega arith), three (neighbours ps i) (omega arith), three (unlinked k (neighbours ps i)) (omega arith), form-length (good-one ts G m)))
+      omega (
+        arith,
+        tree-length i (neighbours ps i) (unlinked k (neighbours ps i)) t,
+        three i (omega arith),
+        three (neighbours ps i) (omega arith),
+        three (unlinked k (neighbours ps i)) (omega arith),
+        form-length (good-one ts G m),
+      ))
 
   pairs-short : length (pairLines ps) ≤ pairLineBytes * length ps
   pairs-short =

@@ -24,7 +24,8 @@ module _ {table : Table} {pairs numbers : List ℕ} {m : ℕ} (out : List ℕ) (
   all-fits : length (firstLine (table .len) m) + length (treeLines (length (f .trees)) (f .linked) 0 (f .trees)) + length (pairLines (f .linked)) ≤ length out
   all-fits =
       let L = f .trees-listed in
-      rw (L .keeps .count, f .pairs-listed .many, ← sheet-length (f .trees) (f .linked)) (omega (arith, sheet-short (f .trees) (f .linked) (keeps-good (L .keeps)) (L .listing) (L .keeps .few), f .room))
+      rw (L .keeps .count, f .pairs-listed .many, ← sheet-length (f .trees) (f .linked))
+      (omega (arith, sheet-short (f .trees) (f .linked) (keeps-good (L .keeps)) (L .listing) (L .keeps .few), f .room))
 
   pub first-fits : 0 + length (firstLine (table .len) m) ≤ length out
   first-fits = omega (arith, all-fits)

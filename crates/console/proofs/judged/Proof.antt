@@ -39,7 +39,9 @@ count-requires c κs = search needs
 returns-2 : tie.Need-returns-2
 returns-2 c =
     let start = c .before .before .before in
-    ap got.Bytes (c .count .ensures .1) ∙ from-zero (toZ w64 (ofZ w64 (start .args .told))) _ (c .before .if1 .left) ∙ ap (λ (z : ℤ). judged z (length (start .args .room .now))) (toZ-ofZ (start .fits .told))
+    ap got.Bytes (c .count .ensures .1) ∙
+    from-zero (toZ w64 (ofZ w64 (start .args .told))) _ (c .before .if1 .left) ∙
+    ap (λ (z : ℤ). judged z (length (start .args .room .now))) (toZ-ofZ (start .fits .told))
 
 pub judged-spec : {M : Type 1} → statement M
 judged-spec = tie.close (tie.spec returns count-requires returns-2)

@@ -47,7 +47,13 @@ returns c =
     let start = read .before .before .before .before in
     let a = start .args in
     let room = length (a .buf .now) - a .done in
-    record { same = search needs; kept = take-put (a .done) room (a .buf .now) (read .read .last .1 .0) (start .pre); within = omega (arith, start .pre, got-fits (told .judged .result) (toZ w64 (ofZ w64 (read .read .result))) (length (read .read .last .1 .0)) (told .judged .ensures), c .before .room4 .given .0, mid-len (a .done) (length (a .buf .now)) (a .buf .now) (le-refl _)) }
+    let given = read .read .last .1 .0 in
+    let counted = got-fits (told .judged .result) (toZ w64 (ofZ w64 (read .read .result))) (length given) (told .judged .ensures) in
+    record {
+      same = search needs;
+      kept = take-put (a .done) room (a .buf .now) given (start .pre);
+      within = omega (arith, start .pre, counted, c .before .room4 .given .0, mid-len (a .done) (length (a .buf .now)) (a .buf .now) (le-refl _));
+    }
 
 pub read-behind-spec : {M : Type 1} → statement M
 read-behind-spec =

@@ -58,7 +58,8 @@ add-done : tie.Need-add-done Inv-loop μ-loop
 add-done c =
     let read = c .before .before .before .before .before .before in
     let start = read .before .before .before .before in
-    omega (arith, advance _ _ _ _ _ (c .before .before .got .given .1) (read .read-behind .ensures), read .read-behind .ensures .same, read .before .before .before .loop .inv .1, start .before .good .0)
+    let more = advance _ _ _ _ _ (c .before .before .got .given .1) (read .read-behind .ensures) in
+    omega (arith, more, read .read-behind .ensures .same, read .before .before .before .loop .inv .1, start .before .good .0)
 
 loop-less : tie.Need-loop-less Inv-loop μ-loop
 loop-less c =

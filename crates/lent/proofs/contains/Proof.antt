@@ -28,7 +28,8 @@ returns : tie.Need-returns Inv-loop μ-loop
 returns c =
     let loop = c .before .before .before .before in
     let a = loop .before .before .args in
-    sym (loop .loop .inv ∙ held-here (a .v) (a .s .now) (a .n) (loop .loop .i) (loop .before .before .pre) (c .before .before .before .loop-test .taken) (sym (c .before .wide .ensures) ∙ c .if1 .taken))
+    sym (loop .loop .inv ∙ held-here (a .v) (a .s .now) (a .n) (loop .loop .i)
+    (loop .before .before .pre) (c .before .before .before .loop-test .taken) (sym (c .before .wide .ensures) ∙ c .if1 .taken))
 
 add-i : tie.Need-add-i Inv-loop μ-loop
 add-i c = search needs

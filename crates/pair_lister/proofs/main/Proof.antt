@@ -34,12 +34,16 @@ whole-within : (buf : List ℕ) {r : Input} (n : ℕ) → r ≡ input.Whole n �
 whole-within buf n e h = subst (InputWithin buf) e h
 
 array-share-prefix-text : tie.Need-array-share-prefix-text
-array-share-prefix-text c = whole-within (c .before .before .before .before .read-input .last .0) (c .before .input .given .0 .0) (c .before .input .given .1) (c .before .before .before .before .read-input .ensures) .0
+array-share-prefix-text c =
+    let read = c .before .before .before .before in
+    let told = c .before .input .given in
+    whole-within (read .read-input .last .0) (told .0 .0) (told .1) (read .read-input .ensures) .0
 
 slice-aggregate-sheet-of : tie.Need-slice-aggregate-sheet-of
 slice-aggregate-sheet-of c =
-    let told = c .before .before in
-    whole-within (told .before .before .before .read-input .last .0) (told .input .given .0 .0) (told .input .given .1) (told .before .before .before .read-input .ensures) .1
+    let read = c .before .before .before .before .before in
+    let told = c .before .before .input .given in
+    whole-within (read .read-input .last .0) (told .0 .0) (told .1) (read .read-input .ensures) .1
 
 sheet-of-requires : tie.Need-sheet-of-requires
 sheet-of-requires c κs = search needs

@@ -68,7 +68,20 @@ abbrev fork-claims : ℕ → read-fork-lts.Claims
 fork-claims t = (read-node-below t, read-node.Post, expect-byte-reads.Asked, expect-byte-reads.Learnt, fork-byte-reads.Asked, fork-byte-reads.Learnt)
 
 abbrev node-claims : ℕ → read-node-lts.Claims
-node-claims t = (skip-blanks-reads.Asked, skip-blanks-reads.Learnt, byte-at-reads.Asked, byte-at-reads.Learnt, is-digit-reads.Asked, is-digit-reads.Learnt, read-label-reads.Asked, read-label-reads.Learnt, refuse-reads.Asked, refuse-reads.Learnt, read-fork-below t, read-fork.Post)
+node-claims t = (
+  skip-blanks-reads.Asked,
+  skip-blanks-reads.Learnt,
+  byte-at-reads.Asked,
+  byte-at-reads.Learnt,
+  is-digit-reads.Asked,
+  is-digit-reads.Learnt,
+  read-label-reads.Asked,
+  read-label-reads.Learnt,
+  refuse-reads.Asked,
+  refuse-reads.Learnt,
+  read-fork-below t,
+  read-fork.Post,
+)
 
 -- the entry, from where the first node was read, and what that says
 abbrev start : (t : ℕ) (c : read-fork-lts.After-read-node (fork-claims t) (read-fork-at t) read-fork.Post) → read-fork-lts.Start (fork-claims t) (read-fork-at t) read-fork.Post
@@ -81,7 +94,8 @@ first-met t c = c .read-node .ensures
 abbrev first-of : (t : ℕ) (c : read-fork-lts.After-comma (fork-claims t) (read-fork-at t) read-fork.Post) → read-fork-lts.After-read-node (fork-claims t) (read-fork-at t) read-fork.Post
 first-of t c = c .before .before .before .before .before .before .before .before
 
-comma-is : (t : ℕ) (c : read-fork-lts.After-comma (fork-claims t) (read-fork-at t) read-fork.Post) → Passed (c .before .before .before .before .first .given .0 .1 .0) (tokenAt 44 (start t (first-of t c) .args .s .now) (c .before .before .before .before .first .given .0 .0)) (c .comma .given .0 .0) (c .comma .given .0 .1 .0)
+comma-is : (t : ℕ) (c : read-fork-lts.After-comma (fork-claims t) (read-fork-at t) read-fork.Post)
+    → Passed (c .before .before .before .before .first .given .0 .1 .0) (tokenAt 44 (start t (first-of t c) .args .s .now) (c .before .before .before .before .first .given .0 .0)) (c .comma .given .0 .0) (c .comma .given .0 .1 .0)
 comma-is t c = step-next (c .before .before .expect-byte .ensures) (c .comma .given .1)
 
 second-met : (t : ℕ) (c : read-fork-lts.After-read-node2 (fork-claims t) (read-fork-at t) read-fork.Post) → Meets (first-of t (c .before .before .before) .read-node .last .1 .1 .1 .0) (c .read-node2 .last .1 .1 .1 .0) (c .before .before .before .comma .given .0 .1 .0) (readNode (start t (first-of t (c .before .before .before)) .args .room) (start t (first-of t (c .before .before .before)) .args .s .now) (c .before .before .before .comma .given .0 .0) (seen (first-of t (c .before .before .before) .read-node .last .1 .1 .1 .0) (c .before .before .before .comma .given .0 .1 .0))) (c .read-node2 .result)
@@ -215,11 +229,14 @@ read-node-returns-2 : (t : ℕ) → read-node-lts.Need-returns-2 (node-claims t)
 read-node-returns-2 t c =
     let d = c .before .before .before in
     let a = d .before .before .before .before .before .before .args in
-    via-deep (a .s .now) (a .from) (d .before .before .before .skip-blanks .ensures) (d .before .before .byte-at .ensures) (d .before .is-digit .ensures) (a .room) (d .if1 .left) (c .before .before .if2 .taken) (c .before .if3 .taken) (c .refuse .ensures) refl
+    via-deep (a .s .now) (a .from) (d .before .before .before .skip-blanks .ensures) (d .before .before .byte-at .ensures) (d .before .is-digit .ensures)
+    (a .room) (d .if1 .left) (c .before .before .if2 .taken) (c .before .if3 .taken) (c .refuse .ensures) refl
 
 -- the bracket is in the text
-bracket-in : (t : ℕ) (c : read-node-lts.Else3 (node-claims t) (read-node-at t) read-node.Post) → c .before .before .before .before .before .skip-blanks .result < length (c .before .before .before .before .before .before .before .before .args .s .now)
-bracket-in t c = inside (c .before .before .before .before .before .before .before .before .args .s .now) (c .before .before .before .before .before .skip-blanks .result) (sym (c .before .before .before .before .byte-at .ensures) ∙ c .before .if2 .taken) (lit< tt)
+bracket-in : (t : ℕ) (c : read-node-lts.Else3 (node-claims t) (read-node-at t) read-node.Post)
+    → c .before .before .before .before .before .skip-blanks .result < length (c .before .before .before .before .before .before .before .before .args .s .now)
+bracket-in t c = inside (c .before .before .before .before .before .before .before .before .args .s .now)
+    (c .before .before .before .before .before .skip-blanks .result) (sym (c .before .before .before .before .byte-at .ensures) ∙ c .before .if2 .taken) (lit< tt)
 
 read-node-add-read-fork : (t : ℕ) → read-node-lts.Need-add-read-fork (node-claims t) (read-node-at t) read-node.Post
 read-node-add-read-fork t c = omega (arith, bracket-in t c)
@@ -251,7 +268,8 @@ read-node-returns-4 : (t : ℕ) → read-node-lts.Need-returns-4 (node-claims t)
 read-node-returns-4 t c =
     let d = c .before .before in
     let a = d .before .before .before .before .before .before .args in
-    via-wrong (a .s .now) (a .from) (d .before .before .before .skip-blanks .ensures) (d .before .before .byte-at .ensures) (d .before .is-digit .ensures) (a .room) (d .if1 .left) (c .before .if2 .left) (c .refuse2 .ensures) refl
+    via-wrong (a .s .now) (a .from) (d .before .before .before .skip-blanks .ensures) (d .before .before .byte-at .ensures) (d .before .is-digit .ensures)
+    (a .room) (d .if1 .left) (c .before .if2 .left) (c .refuse2 .ensures) refl
 
 pub +read-fork+read-node-spec : {M : Type 1} → statement M
 +read-fork+read-node-spec = close μ-read-fork μ-read-node (λ t. read-fork-lts.spec (fork-claims t)

@@ -111,7 +111,8 @@ returns c =
     let two = second three in
     let one = first two in
     let a = start one .args in
-    λ t k. tree-wrote (a .position) (a .neighbours) (a .unlinked) t (one .write-field .ensures) (two .write-field2 .ensures) (three .write-field3 .ensures) (gap .write-text .ensures) (form .write-form .ensures t k) (end .write-text2 .ensures)
+    λ t k. tree-wrote (a .position) (a .neighbours) (a .unlinked) t (one .write-field .ensures) (two .write-field2 .ensures)
+    (three .write-field3 .ensures) (gap .write-text .ensures) (form .write-form .ensures t k) (end .write-text2 .ensures)
 
 pub write-tree-line-spec : {M : Type 1} → statement M
 write-tree-line-spec =
