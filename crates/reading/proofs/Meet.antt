@@ -18,7 +18,7 @@ use Rattle.meaning.proofs.Sound.{Silent}
 use Rattle.meaning.proofs.Ways.{reads, gives-got, token-gives, label-range, label-new}
 use Rattle.held.specs.Held.{nodes, pre}
 use Rattle.held.proofs.Labels.{member-labels}
-use Rattle.reading.specs.Draft.{seen, Draft, Meets, tokenAt}
+use Rattle.reading.specs.Draft.{tooLarge, seen, Draft, Meets, tokenAt}
 use Rattle.reading.specs.Paper.{goesOn, stepAnswer}
 use Rattle.reading.specs.declared.Step.{Step}
 use Rattle.reading.proofs.Draft.{fits-more}
@@ -62,7 +62,7 @@ pub record Checked (s : List ℕ) (q : ℕ) (node : List ℕ) (at v : ℕ) (foun
   pub held : member (value s q) (seen node at) ≡ found
 
 pub checked : (s : List ℕ) (q : ℕ) (node : List ℕ) (at v : ℕ) (found : Bool)
-    → badLabel (byteAt s q) (value s q) ≡ false → v ≡ min 65 (value s q) → found ≡ member v (take at node) → Checked s q node at v found
+    → badLabel (byteAt s q) (value s q) ≡ false → v ≡ min tooLarge (value s q) → found ≡ member v (take at node) → Checked s q node at v found
 checked s q node at v found f e m =
     let (l, h) = label-range _ _ f in
     let z : v ≡ value s q = omega arith in

@@ -9,11 +9,12 @@ use borrow.Author.Tests.{eq-eqb, ne-eqb, lt-ltb, le-ltb}
 use lib.Dec.{ltb}
 use Rattle.meaning.specs.Limits.{maxLabel}
 use Rattle.meaning.specs.Reading.{badLabel}
+use Rattle.reading.specs.Draft.{tooLarge}
 use Rattle.reading.proofs.bad_label.Statement.{statement}
 use Rattle.reading.proofs.bad_label.Tie as tie
 
 -- a value that is held down above the largest label is above it where the value is
-held-down : (most v w : ℕ) → most ≡ maxLabel → v ≡ min 65 w → ltb most v ≡ ltb maxLabel w
+held-down : (most v w : ℕ) → most ≡ maxLabel → v ≡ min tooLarge w → ltb most v ≡ ltb maxLabel w
 held-down most v w e h = by (decLe w maxLabel)
   where
     by : Dec (w ≤ maxLabel) → ltb most v ≡ ltb maxLabel w

@@ -9,12 +9,13 @@ use borrow.Author.Tests.{not-true, not-false}
 use lib.ListN.{length, drop, getD}
 use Rattle.meaning.specs.Reading.{isDigit, past, valueAfter, value}
 use Rattle.meaning.proofs.Scan.{past-more, past-stop, past-end, value-more, value-stop, value-end, cut, digit-low, digit-high}
+use Rattle.reading.specs.Draft.{tooLarge}
 use Rattle.reading.proofs.digit_run.Statement.{statement}
 use Rattle.reading.proofs.digit_run.Tie as tie
 
 abbrev Inv-loop : tie.InvT-loop
 Inv-loop s from i₀ v₀ i v =
-    (past isDigit s from ≡ past isDigit s i) × (min 65 (value s from) ≡ min 65 (valueAfter v (drop i s))) × (v ≤ 65)
+    (past isDigit s from ≡ past isDigit s i) × (min tooLarge (value s from) ≡ min tooLarge (valueAfter v (drop i s))) × (v ≤ tooLarge)
 
 abbrev μ-loop : tie.MeasureT-loop
 μ-loop s from i₀ v₀ i v = length s - i
@@ -66,10 +67,10 @@ loop-again c =
     let v = loop .loop .v in
     let h = d .before .before .before .loop-test .taken in
     let e = sym (d .before .is-digit .ensures) ∙ not-false _ (d .if1 .left) in
-    let m : min 65 (v * 10 + (getD s i 0 - 48)) ≡ min 65 (c .if2 .v) = ⊎-elim (λ w. omega arith) (λ w. omega arith) (c .if2 .came) in
-    let n : c .if2 .v ≤ 65 = ⊎-elim (λ w. omega arith) (λ w. omega arith) (c .if2 .came) in (
+    let m : min tooLarge (v * 10 + (getD s i 0 - 48)) ≡ min tooLarge (c .if2 .v) = ⊎-elim (λ w. omega arith) (λ w. omega arith) (c .if2 .came) in
+    let n : c .if2 .v ≤ tooLarge = ⊎-elim (λ w. omega arith) (λ w. omega arith) (c .if2 .came) in (
       loop .loop .inv .0 ∙ past-more isDigit s i h e,
-      loop .loop .inv .1 ∙ ap (λ (k : ℕ). min 65 k) (value-more s i v h e) ∙ cut (drop (i + 1) s) _ _ m,
+      loop .loop .inv .1 ∙ ap (λ (k : ℕ). min tooLarge k) (value-more s i v h e) ∙ cut (drop (i + 1) s) _ _ m,
       n,
     )
 
