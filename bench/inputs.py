@@ -15,6 +15,7 @@ Full tables, 160 trees of 64 leaves:
                  some of them one move apart
     combs        every fork has a leaf as a child; each tree is one, two or
                  three moves of a leaf from the one before
+    copies       one topology, with children swapped
 
 Growth, for `unrelated` and `chain`: the first 20, 40 and 80 trees of the full
 table, and 160 trees of 8, 16 and 32 leaves.  The full tables are the last step
@@ -159,6 +160,11 @@ def combs(rng, leaves):
     return trees
 
 
+def copies(rng, leaves):
+    """One topology."""
+    return [random_tree(rng, leaves)] * TREES
+
+
 # Texts
 
 
@@ -178,7 +184,7 @@ def lines_of(make, leaves):
 
 def inputs():
     """Yield (name, text) for each input, growing ones from small to large."""
-    full = {make: lines_of(make, LEAVES) for make in (unrelated, chain, near_copies, combs)}
+    full = {make: lines_of(make, LEAVES) for make in (unrelated, chain, near_copies, combs, copies)}
     for make, lines in full.items():
         yield make.__name__, "".join(lines)
     for make in (unrelated, chain):

@@ -245,8 +245,8 @@ static void sheets(void)
     const size_t enough = NORBELATH_SHEET_OUT;
     const char *text = "((2,1),3);\n(3,(2,1));\n(1,(2,3));\n((1,3),2);\n";
     const char *expected = "trees 4 pairs 5\n"
-                           "tree 0 neighbours 2 unlinked 1 ((1,2),3);\n"
-                           "tree 1 neighbours 2 unlinked 1 ((1,2),3);\n"
+                           "tree 0 neighbours 2 unlinked 0 ((1,2),3);\n"
+                           "tree 1 neighbours 2 unlinked 0 ((1,2),3);\n"
                            "tree 2 neighbours 3 unlinked 0 (1,(2,3));\n"
                            "tree 3 neighbours 3 unlinked 0 ((1,3),2);\n"
                            "pair 0 2\npair 0 3\npair 1 2\npair 1 3\npair 2 3\n";

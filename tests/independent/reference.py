@@ -412,10 +412,12 @@ def sheet(text):
 
 def sheet_of(table_, graph_):
     """The sheet of an accepted table; every line ends in one LF."""
-    size = len(table_.texts)
-    lines = [b"trees %d pairs %d" % (size, len(graph_.pairs))]
-    for i, (text, neighbours) in enumerate(zip(table_.texts, graph_.counts)):
-        unlinked = size - 1 - neighbours
+    texts = table_.texts
+    linked = set(graph_.pairs) | {(j, i) for i, j in graph_.pairs}
+    lines = [b"trees %d pairs %d" % (len(texts), len(graph_.pairs))]
+    for i, (text, neighbours) in enumerate(zip(texts, graph_.counts)):
+        # Equal canonical texts are equal topologies.
+        unlinked = sum(other != text and (i, j) not in linked for j, other in enumerate(texts))
         lines.append(b"tree %d neighbours %d unlinked %d %s" % (i, neighbours, unlinked, text))
     for i, j in graph_.pairs:
         lines.append(b"pair %d %d" % (i, j))

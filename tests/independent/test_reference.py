@@ -21,8 +21,8 @@ HERE = os.path.dirname(os.path.abspath(__file__))
 SAMPLE_INPUT = b"((2,1),3);\n(3,(2,1));\n(1,(2,3));\n((1,3),2);\n"
 SAMPLE_SHEET = b"""\
 trees 4 pairs 5
-tree 0 neighbours 2 unlinked 1 ((1,2),3);
-tree 1 neighbours 2 unlinked 1 ((1,2),3);
+tree 0 neighbours 2 unlinked 0 ((1,2),3);
+tree 1 neighbours 2 unlinked 0 ((1,2),3);
 tree 2 neighbours 3 unlinked 0 (1,(2,3));
 tree 3 neighbours 3 unlinked 0 ((1,3),2);
 pair 0 2

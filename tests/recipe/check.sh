@@ -68,7 +68,7 @@ refuses 'no trees are left' --burn-in 100% "$here/sample.t"
 
 copies 160
 copies 161
-awk 'BEGIN { print "trees 160 pairs 0"; for (i = 0; i < 160; i++) print "tree " i " neighbours 0 unlinked 159 ((1,2),3);" }' | file copies.sheet
+awk 'BEGIN { print "trees 160 pairs 0"; for (i = 0; i < 160; i++) print "tree " i " neighbours 0 unlinked 0 ((1,2),3);" }' | file copies.sheet
 gives "$work/copies.sheet" "$work/copies_160"
 gives "$work/copies.sheet" --burn-in 1 "$work/copies_161"
 refuses '161 trees, and a sheet has 160 at most; --every 2 leaves 81' "$work/copies_161"

@@ -135,8 +135,12 @@ fn write_sheet(text: &[u8], out: &mut Vec<u8>) -> std::io::Result<()> {
     };
     let (pairs, counts) = graph_of(&trees);
     writeln!(out, "trees {} pairs {}", trees.len(), pairs.len())?;
+    let mut copies: HashMap<&[u8], usize> = HashMap::new();
+    for tree in &trees {
+        *copies.entry(tree.canonical_text()).or_default() += 1;
+    }
     for (i, (tree, &neighbours)) in trees.iter().zip(&counts).enumerate() {
-        let unlinked = trees.len() - 1 - usize::from(neighbours);
+        let unlinked = trees.len() - usize::from(neighbours) - copies[tree.canonical_text()];
         write!(out, "tree {i} neighbours {neighbours} unlinked {unlinked} ")?;
         out.extend_from_slice(tree.canonical_text());
         out.push(b'\n');

@@ -172,8 +172,8 @@ fn sample_sheet() {
     let input = b"((2,1),3);\n(3,(2,1));\n(1,(2,3));\n((1,3),2);\n";
     let expected = "\
 trees 4 pairs 5
-tree 0 neighbours 2 unlinked 1 ((1,2),3);
-tree 1 neighbours 2 unlinked 1 ((1,2),3);
+tree 0 neighbours 2 unlinked 0 ((1,2),3);
+tree 1 neighbours 2 unlinked 0 ((1,2),3);
 tree 2 neighbours 3 unlinked 0 (1,(2,3));
 tree 3 neighbours 3 unlinked 0 ((1,3),2);
 pair 0 2

@@ -1,17 +1,18 @@
 -- What records keep: a tree's record holds its canonical form, and a table's records keep its trees one by one, and one more.
 -- Assumes nothing.
-use mathlib.Core.Path.{_≡_, sym, _∙_}
+use mathlib.Core.Path.{_≡_, sym, ap, _∙_}
 use mathlib.Core.List.{List, [], _∷_, _++_}
 use Prim.Native.Nat.{ℕ, suc, _+_, _<_}
 use native.Mathlib.Omega.{arith}
 use native.Mathlib.Decide.{decLt}
-use lib.ListN.{length, set, length-append, List·getD-append}
-use lib.Seq.{getD-set-same, getD-set-other, getD-at}
+use lib.ListN.{length, set, replicate, length-append, List·getD-append}
+use lib.Seq.{getD-set-same, getD-set-other, getD-at, length-sets}
+use Rattle.meaning.specs.Limits.{maxNodes}
 use Rattle.meaning.specs.Tree.{Tree as Topology, leaf, canon, AllGood}
 use Rattle.meaning.specs.Listing.{treeOf}
 use Rattle.meaning.proofs.Canon.{canon-good}
 use Rattle.meaning.proofs.Length.{leaves-64}
-use Rattle.held.specs.Held.{Holds, Held}
+use Rattle.held.specs.Held.{pre, Holds, Held}
 use Rattle.held.specs.Kept.{Keeps, Kept, heldAt, KeepsAll, KeptAll}
 use Rattle.held.specs.declared.Tree.{Tree}
 use Rattle.held.specs.declared.Table.{Table}
@@ -22,6 +23,10 @@ pub keeps-holds : {tree : Tree} {t : Topology} → Keeps tree t → Holds (tree 
 keeps-holds {t} k =
     let C = canon-good (k .good) in
     rw (k .bytes) (holding (canon t) (C .small) (omega (arith, leaves-64 C, twice (canon t))))
+
+-- and has a byte for each node that a tree can have
+pub keeps-long : {tree : Tree} {t : Topology} → Keeps tree t → length (tree .node) ≡ maxNodes
+keeps-long {t} k = ap length (k .bytes) ∙ length-sets (replicate maxNodes 0) 0 (pre (canon t))
 
 pub kept-held : {tree : Tree} → Kept tree → Held (tree .node) 0
 kept-held p = record { tree = canon (p .topology); holds = keeps-holds (p .keeps) }

@@ -1,4 +1,5 @@
 pub mod Canon
+pub mod Copies
 pub mod Cut
 pub mod Kept
 pub mod Labels

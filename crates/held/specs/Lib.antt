@@ -1,3 +1,4 @@
+pub mod Copies
 pub mod Held
 pub mod Kept
 pub mod Labels

@@ -1,16 +1,17 @@
 // A held rooted binary tree: its nodes in preorder, one byte each. A leaf's byte is its label, 1 to 64; a fork's is 64 and
 // the number of leaves below it. A fork's first child is the next node, and a subtree is one run of bytes. And a table of them.
 ghost use mathlib.Core.Path.{_≡_};
-ghost use mathlib.Core.List.{[], _∷_};
+ghost use mathlib.Core.List.{List, [], _∷_};
 ghost use Prim.Native.Nat.{_+_, _-_, _≤_, _<_};
 ghost use lib.ListN.{length, replicate};
 ghost use Rattle.meaning.specs.Limits.{maxNodes, maxTrees};
 ghost use Rattle.meaning.specs.Lists.{within};
-ghost use Rattle.meaning.specs.Tree.{Tree as Topology, leaves as leavesOf, canon};
+ghost use Rattle.meaning.specs.Tree.{Tree as Topology, leaves as leavesOf, SameTopology, canon};
 ghost use Rattle.meaning.specs.Reading.{sameLabels};
-ghost use Rattle.lent.specs.Runs.{Wrote};
+ghost use Rattle.lent.specs.Runs.{Wrote, Says};
 ghost use Rattle.held.specs.Held.{Holds, Held, Room, Noted, Marked, Cuts, HasCut, nodes, pre, hold, cutIn};
-ghost use Rattle.held.specs.Kept.{Keeps, KeepsAll, Adds};
+ghost use Rattle.held.specs.Kept.{Keeps, Kept, KeepsAll, KeptAll, Adds};
+ghost use Rattle.held.specs.Copies.{firstsOf};
 ghost use Rattle.held.specs.Labels.{labelsIn};
 
 // A tree in canonical order: equal bytes are equal topologies, and node number c + 1 is cut number c.
@@ -239,4 +240,28 @@ pub fn same_labels(a: Tree, b: Tree) -> bool
         return false;
     }
     covered(&second, &first)
+}
+
+// Whether two trees have one topology: each is in canonical order, so exactly where their bytes are equal.
+pub fn same_topology(a: Tree, b: Tree) -> bool
+    requires { ⌜ Kept a × Kept b ⌝ }
+    ensures { λ r. ⌜ ((t u : Topology) → Keeps a t → Keeps b u → Says r (SameTopology t u)) ⌝ }
+{
+    lent::same_run(&a.node, 0, &b.node, 0, Tree::MAX_NODES)
+}
+
+// Writes the first position of each tree's topology, from the start of `firsts` on. Copies are found at their first.
+pub fn note_firsts(firsts: &mut [u16], table: Table)
+    requires { ⌜ KeptAll table × (table .len ≤ length (now firsts)) ⌝ }
+    ensures { λ _. ⌜
+        ((ts : List Topology) → KeepsAll table ts
+        → Wrote (firstsOf ts) (now (firsts .entry)) (now (firsts .exit)) 0 (length ts)) ⌝ }
+{
+    for i in 0..table.len {
+        let mut first = 0;
+        while !same_topology(table.trees[i], table.trees[first]) {
+            first += 1;
+        }
+        firsts[i] = first as u16;
+    }
 }

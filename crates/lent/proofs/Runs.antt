@@ -1,13 +1,15 @@
 -- Laws of runs in lent memory: what stands at a place, stores one after another, and what they leave.
 -- Assumes nothing.
 use mathlib.Core.Path.{_≡_, refl, sym, ap, ap₂, subst, subst₂, _∙_}
-use mathlib.Core.List.{List, [], _∷_, _++_}
+use mathlib.Core.List.{List, [], _∷_, _++_, map}
 use Prim.Native.Nat.{ℕ, suc, _+_, _≤_, _<_}
 use native.Mathlib.Nat.{add-zero, zero-add}
 use native.Mathlib.Omega.{arith}
 use native.Mathlib.Numerals.{add-one}
 use lib.ListN.{length, take, drop, getD, set, replicate, replicate-append-replicate, length-append, length-drop, List·getD-append}
 use lib.Seq.{set-comm, take-suc, drop-drop, drop-append-seam, getD-drop, sets, sets-eq, length-sets}
+use Rattle.meaning.specs.Lists.{positions}
+use Rattle.meaning.proofs.Sums.{map-suc}
 use Rattle.lent.specs.Runs.{Wrote}
 
 module _ {A : Type 0} where
@@ -78,3 +80,7 @@ module _ {A : Type 0} where
   pub wrote-same : (v : A) {out out′ : List A} (n : ℕ) → Wrote (replicate n v) out out′ 0 n → Wrote (replicate (n + 1) v) out (set out′ n v) 0 (n + 1)
   wrote-same v {out} {out′} n w =
       subst (λ (ys : List A). Wrote ys out (set out′ n v) 0 (n + 1)) (replicate-append-replicate n 1 v) (wrote-more w (wrote-one out′ n v))
+
+-- what f makes of one position more
+pub wrote-next : (f : ℕ → ℕ) {out out′ : List ℕ} (i : ℕ) → Wrote (map f (positions i)) out out′ 0 i → Wrote (map f (positions (i + 1))) out (set out′ i (f i)) 0 (i + 1)
+wrote-next f {out′} i w = rw (add-one, map-suc f i) (rw add-one at (wrote-more w (wrote-one out′ i (f i))))

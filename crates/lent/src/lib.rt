@@ -4,6 +4,7 @@ ghost use Prim.Native.Nat.{_+_, _≤_};
 ghost use lib.ListN.{length, take, drop, replicate};
 ghost use Rattle.meaning.specs.Lists.{member};
 ghost use Rattle.lent.specs.Runs.{Wrote, SameRun, Says};
+ghost use Rattle.lent.specs.Tallies.{TallyRoom, Tallied};
 
 pub fn wide(x: u8) -> usize
     ensures { λ r. ⌜ r ≡ x ⌝ }
@@ -31,6 +32,16 @@ pub fn clear(numbers: &mut [u16], n: usize)
 {
     for at in 0..n {
         numbers[at] = 0;
+    }
+}
+
+// Adds one at place x of `tallies` for each x among the first n numbers.
+pub fn tally(tallies: &mut [u16], numbers: &[u16], n: usize)
+    requires { ⌜ TallyRoom (now tallies) (now numbers) n ⌝ }
+    ensures { λ _. ⌜ Tallied (take n (now (numbers .entry))) (now (tallies .entry)) (now (tallies .exit)) ⌝ }
+{
+    for i in 0..n {
+        tallies[numbers[i] as usize] += 1;
     }
 }
 

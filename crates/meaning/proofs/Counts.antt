@@ -1,20 +1,22 @@
 -- Neighbour counts of a listing: their sum, their bounds, and how a further pair changes them.
 -- Assumes nothing.
 use mathlib.Core.Path.{_≡_, refl, sym, ap₂, _∙_, subst}
-use mathlib.Core.Bool.{Bool, true, false, _&&_, not}
-use mathlib.Core.List.{List, [], _∷_, _++_, List·Memᴰ, List·Memᴰ·head, List·Memᴰ·tail}
+use mathlib.Core.Logic.{_⊎_, inl, inr}
+use mathlib.Core.Bool.{Bool, true, false, _&&_, _||_, not, and-comm}
+use mathlib.Core.List.{List, [], _∷_, _++_, List·Memᴰ, List·Memᴰ·head, List·Memᴰ·tail, Memᴰ·cast}
 use Prim.Native.Nat.{ℕ, _+_, _-_, _*_, _/_, _≤_, _<_, min, max}
 use native.Mathlib.Nat.{mul-le-mul, min-eq-left, min-eq-right, max-eq-left, max-eq-right}
 use native.Mathlib.Omega.{arith}
 use native.Mathlib.Decide.{ℕ-discrete, decLt}
-use borrow.Author.Tests.{eq-eqb, ne-eqb}
-use lib.Dec.{T, eqb, eqb→eq, eqb-refl, leb, leb→le, le→leb}
+use borrow.Author.Tests.{eqb-true, eq-eqb, ne-eqb}
+use lib.Dec.{T, eqb, eqb→eq, eqb-refl}
 use lib.ListN.{length, getD, replicate, length-set, length-replicate, getD-replicate}
 use lib.Seq.{getD-set-same, getD-set-other, ext-getD}
 use Rattle.meaning.specs.Limits.{maxTrees, pairNumbers}
 use Rattle.meaning.specs.Lists.{count, positions, more, sum, upto, bit}
-use Rattle.meaning.specs.Listing.{Pair, Ascending, Listing, touches, neighbours, counts, unlinked, flat}
-use Rattle.meaning.proofs.Logic.{T-and}
+use Rattle.meaning.specs.Listing.{Pair, Ascending, Listing, touches, neighbours, counts, paired, flat}
+use Rattle.meaning.proofs.Logic.{T-and, T-left, T-right, cases}
+use Rattle.meaning.proofs.Lists.{any-mem, mem-any}
 use Rattle.meaning.proofs.Listing.{before-ne, listing-iff}
 use Rattle.meaning.proofs.Sums.{count-append, map-length, map-at, map-sum, count-positions, upto-add, upto-le, upto-same, upto-const, bit-one, bit-none, bit-or, upto-at, upto-and, and-upto}
 
@@ -179,25 +181,54 @@ linked-few test k i h =
     one false true = omega arith
     one false false = omega arith
 
--- the pair (i, j) stands in the list
-abbrev pub listed? : List Pair → ℕ → ℕ → Bool
-listed? ps i j = leb 1 (times ps (i, j))
+-- a pair touches a position that is its first or its second
+touched : (x : ℕ) (p : Pair) → T (touches x p) → (p .0 ≡ x) ⊎ (p .1 ≡ x)
+touched x p = cases (λ b. T (b || eqb (p .1) x) → (p .0 ≡ x) ⊎ (p .1 ≡ x)) (eqb (p .0) x) (λ e _. inl (eqb-true (p .0) x e)) (λ _ t. inr (eqb→eq (p .1) x t))
 
--- a listing is that of a test
-pub listing-test : {k : ℕ} {L : ℕ → ℕ → Type 0} {ps : List Pair} → Listing k L ps → Listing k (λ i j. T (listed? ps i j)) ps
-listing-test {ps} H = listing-iff (λ i j h l. (
-  λ x. le→leb 1 (times ps (i, j)) (omega (arith, times-one (i, j) (H .ascending) (H .listed i j .1 (h, l, x)))),
-  λ t. H .listed i j .0 (times-mem (i, j) ps (leb→le 1 (times ps (i, j)) t)) .2,
-)) H
+touches-first : (p : Pair) → T (touches (p .0) p)
+touches-first p = T-left (eqb (p .0) (p .0)) (eqb (p .1) (p .0)) (eqb-refl (p .0))
+
+touches-second : (p : Pair) → T (touches (p .1) p)
+touches-second p = T-right (eqb (p .0) (p .1)) (eqb (p .1) (p .1)) (eqb-refl (p .1))
+
+-- so a pair in order that touches i and j, which are in order, is their pair
+touches-pair : (p : Pair) (i j : ℕ) → p .0 < p .1 → i < j → T (touches i p) → T (touches j p) → p ≡ (i, j)
+touches-pair p i j l h f g = go (touched i p f) (touched j p g)
+  where
+    go : (p .0 ≡ i) ⊎ (p .1 ≡ i) → (p .0 ≡ j) ⊎ (p .1 ≡ j) → p ≡ (i, j)
+    go (inl d) (inr e) = λ x. (d x, e x)
+    go (inl d) (inl e) = absurd (omega arith)
+    go (inr d) (inl e) = absurd (omega arith)
+    go (inr d) (inr e) = absurd (omega arith)
+
+-- a listed pair joins its positions
+pub mem-paired : {ps : List Pair} {i j : ℕ} → List·Memᴰ (i, j) ps → T (paired ps i j)
+mem-paired {i} {j} m = mem-any (λ p. touches i p && touches j p) m (T-and (touches i (i, j)) (touches j (i, j)) .1 (touches-first (i, j), touches-second (i, j)))
+
+-- in either order
+pub paired-sym : (ps : List Pair) (i j : ℕ) → paired ps i j ≡ paired ps j i
+paired-sym [] i j = refl
+paired-sym (p ∷ ps) i j = ap₂ _||_ (and-comm (touches i p) (touches j p)) (paired-sym ps i j)
 
 module _ {k : ℕ} {L : ℕ → ℕ → Type 0} {ps : List Pair} (H : Listing k L ps) where
+  -- and positions in order that are joined are a listed pair
+  pub paired-mem : {i j : ℕ} → i < j → T (paired ps i j) → List·Memᴰ (i, j) ps
+  paired-mem {i} {j} h t =
+      let (p, m, b) = any-mem (λ p. touches i p && touches j p) ps t in
+      let (f, g) = T-and (touches i p) (touches j p) .0 b in
+      Memᴰ·cast (sym (touches-pair p i j (below H p m .0) h f g)) m
+
+  -- so a listing is that of a test
+  paired-listing : Listing k (λ i j. T (paired ps i j)) ps
+  paired-listing = listing-iff (λ i j h l. (λ x. mem-paired (H .listed i j .1 (h, l, x)), λ t. H .listed i j .0 (paired-mem h t) .2)) H
+
+  -- the neighbour count is the number of other positions that a listed pair joins to i
+  pub neighbours-paired : (i : ℕ) → i < k → neighbours ps i ≡ count (linked? (paired ps) i) (positions k)
+  neighbours-paired i h = neighbours-are (paired ps) paired-listing i h
+
   -- a position has at most k - 1 neighbours
   pub neighbours-le : (i : ℕ) → i < k → neighbours ps i ≤ k - 1
-  neighbours-le i h = omega (arith, neighbours-are (listed? ps) (listing-test H) i h, linked-few (listed? ps) k i h)
-
-  -- so its unlinked number makes up the k - 1 others
-  pub unlinked-neighbours : (i : ℕ) → i < k → unlinked k (neighbours ps i) + neighbours ps i ≡ k - 1
-  unlinked-neighbours i h = omega (arith, neighbours-le i h)
+  neighbours-le i h = omega (arith, neighbours-paired i h, linked-few (paired ps) k i h)
 
   -- each of the k positions has at most k - 1 neighbours, and each pair is counted twice
   pub listing-length : 2 * length ps ≤ k * (k - 1)
@@ -226,7 +257,7 @@ flat-append [] qs = refl
 flat-append (p ∷ ps) qs = rw (flat-append ps qs)
 
 -- one more at place i: what stands at place m then
-more-at : (cs : List ℕ) (i m : ℕ) → i < length cs → getD (more cs i) m 0 ≡ getD cs m 0 + bit (eqb i m)
+pub more-at : (cs : List ℕ) (i m : ℕ) → i < length cs → getD (more cs i) m 0 ≡ getD cs m 0 + bit (eqb i m)
 more-at cs i m h = go (ℕ-discrete i m)
   where
     go : Dec (i ≡ m) → getD (more cs i) m 0 ≡ getD cs m 0 + bit (eqb i m)

@@ -33,4 +33,5 @@ pub mod Sums
 pub mod TableLines
 pub mod TableText
 pub mod Text
+pub mod Unlinked
 pub mod Ways

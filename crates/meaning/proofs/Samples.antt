@@ -2,21 +2,22 @@
 -- Assumes nothing.
 use mathlib.Core.Path.{_≡_, refl, subst}
 use mathlib.Core.Bool.{not}
-use mathlib.Core.List.{List, [], _∷_}
+use mathlib.Core.List.{List, [], _∷_, _++_}
 use Prim.Native.Nat.{ℕ, zero, suc, _<_}
 use native.Mathlib.Omega.{arith}
 use borrow.Author.Tests.{le-leb, le-ltb}
 use lib.Dec.{T, T-not}
 use lib.ListN.{length}
 use Rattle.meaning.specs.Limits.{formBytes, forestBytes, maxTrees, tableBytes, pairNumbers}
-use Rattle.meaning.specs.Lists.{member, within}
+use Rattle.meaning.specs.Lists.{member, within, positions}
 use Rattle.meaning.specs.Bytes.{bytes}
-use Rattle.meaning.specs.Tree.{Tree, Distinct}
+use Rattle.meaning.specs.Tree.{Tree, leaf, fork, Distinct}
 use Rattle.meaning.specs.Move.{Apart}
 use Rattle.meaning.specs.Reading.{Read, got, refused, isBlank, isDigit, lead, past, valueAfter, value, token, badLabel, labelAt, forkAt, nodeAt, readNode, treeAt, readTree, tableFrom, readTable}
 use Rattle.meaning.specs.Listing.{Pair, Listing, At, treeOf}
 use Rattle.meaning.specs.Decide.{distinct?, apart?}
-use Rattle.meaning.specs.Calls.{is-apart, not-apart, lists}
+use Rattle.meaning.specs.Answer.{accepted}
+use Rattle.meaning.specs.Calls.{is-apart, not-apart, lists, tableRead}
 use Rattle.meaning.specs.Sheet.{Sheet, prints, twoFields, treeLine, treeLines, pairLines, sheet}
 use Rattle.meaning.specs.Samples.{AllHold, samples}
 use Rattle.meaning.proofs.Decide.{distinct-iff, apart-iff}
@@ -86,12 +87,37 @@ samples-hold =
 abbrev input : List ℕ
 input = bytes "((2,1),3);\n(3,(2,1));\n(1,(2,3));\n((1,3),2);\n"
 
+abbrev output : List ℕ
+output =
+    bytes "trees 4 pairs 5\n"
+    ++ bytes "tree 0 neighbours 2 unlinked 0 ((1,2),3);\n"
+    ++ bytes "tree 1 neighbours 2 unlinked 0 ((1,2),3);\n"
+    ++ bytes "tree 2 neighbours 3 unlinked 0 (1,(2,3));\n"
+    ++ bytes "tree 3 neighbours 3 unlinked 0 ((1,3),2);\n"
+    ++ bytes "pair 0 2\npair 0 3\npair 1 2\npair 1 3\npair 2 3\n"
+
 abbrev four : List Tree
-four = trees (readTable input)
+four =
+    fork (fork (leaf 2) (leaf 1)) (leaf 3)
+    ∷ fork (leaf 3) (fork (leaf 2) (leaf 1))
+    ∷ fork (leaf 1) (fork (leaf 2) (leaf 3))
+    ∷ fork (fork (leaf 1) (leaf 3)) (leaf 2)
+    ∷ []
 
 abbrev five : List Pair
 five = (0, 2) ∷ (0, 3) ∷ (1, 2) ∷ (1, 3) ∷ (2, 3) ∷ []
 
-pub sheet-holds : Sheet input (bytes "trees 4 pairs 5\ntree 0 neighbours 2 unlinked 1 ((1,2),3);\ntree 1 neighbours 2 unlinked 1 ((1,2),3);\ntree 2 neighbours 3 unlinked 0 (1,(2,3));\ntree 3 neighbours 3 unlinked 0 ((1,3),2);\npair 0 2\npair 0 3\npair 1 2\npair 1 3\npair 2 3\n")
-unfolding pairsFrom rowOf each isBlank isDigit lead past valueAfter value member token badLabel labelAt forkAt nodeAt readNode treeAt readTree within tableFrom readTable twoFields treeLine treeLines pairLines sheet
-sheet-holds = prints four five refl (listed four five (tt, (tt, (tt, (tt, tt)))) refl)
+four-read : tableRead input ≡ accepted four
+unfolding isBlank isDigit lead past valueAfter value member token badLabel labelAt forkAt nodeAt readNode treeAt readTree within tableFrom readTable
+four-read = refl
+
+five-listed : Listing 4 (At Apart four) five
+unfolding pairsFrom rowOf each
+five-listed = listed four five (tt, (tt, (tt, (tt, tt)))) refl
+
+output-is : sheet four five ≡ output
+unfolding positions twoFields treeLine treeLines pairLines sheet
+output-is = refl
+
+pub sheet-holds : Sheet input output
+sheet-holds = subst (Sheet input) output-is (prints four five four-read five-listed)

@@ -1,7 +1,7 @@
 -- Sums over lists and over the positions 0 to k - 1, tests as the numbers 1 and 0, and how many numbers can differ.
 -- Assumes nothing.
-use mathlib.Core.Path.{_≡_, refl, sym, ap, _∙_}
-use mathlib.Core.Logic.{_≢_}
+use mathlib.Core.Path.{_≡_, refl, sym, ap, ap₂, _∙_}
+use mathlib.Core.Logic.{_≢_, _↔_}
 use mathlib.Core.Bool.{Bool, true, false, _&&_, _||_, and-comm}
 use mathlib.Core.List.{List, [], _∷_, _++_, map, map-append, List·Memᴰ, List·Memᴰ·head, List·Memᴰ·tail, Memᴰ·cast}
 use Prim.Native.Nat.{ℕ, zero, suc, _+_, _*_, _≤_, _<_}
@@ -23,8 +23,18 @@ pub count-append : {A : Type 0} (test : A → Bool) (xs ys : List A) → count t
 count-append test [] ys = omega arith
 count-append test (x ∷ xs) ys = omega (arith, count-append test xs ys)
 
+-- and among what f makes of a list
+pub count-map : {A B : Type 0} (test : B → Bool) (f : A → B) (xs : List A) → count test (map f xs) ≡ count (λ x. test (f x)) xs
+count-map test f [] = refl
+count-map test f (x ∷ xs) = omega (arith, count-map test f xs)
+
 module _ (f : ℕ → ℕ) where
-  map-suc : (k : ℕ) → map f (positions (suc k)) ≡ map f (positions k) ++ (f k ∷ [])
+  map-none : map f (positions zero) ≡ []
+  unfolding positions
+  map-none = refl
+
+  -- f at one position more
+  pub map-suc : (k : ℕ) → map f (positions (suc k)) ≡ map f (positions k) ++ (f k ∷ [])
   unfolding positions
   map-suc k = map-append f (positions k) (k ∷ [])
 
@@ -49,6 +59,11 @@ module _ (f : ℕ → ℕ) where
   map-sum zero = refl
   map-sum (suc k) = simp (map-suc, sum-append) (omega (arith, map-sum k))
 
+-- two functions that agree on the positions
+pub map-same : (f g : ℕ → ℕ) (k : ℕ) → ((j : ℕ) → j < k → f j ≡ g j) → map f (positions k) ≡ map g (positions k)
+map-same f g zero h = map-none f ∙ sym (map-none g)
+map-same f g (suc k) h = map-suc f k ∙ ap₂ (λ (l : List ℕ) (x : ℕ). l ++ (x ∷ [])) (map-same f g k (λ j l. h j (omega arith))) (h k (omega arith)) ∙ sym (map-suc g k)
+
 -- how many positions pass a test
 pub count-positions : (test : ℕ → Bool) (k : ℕ) → count test (positions k) ≡ upto (λ j. bit (test j)) k
 unfolding positions
@@ -69,6 +84,15 @@ upto-le f g (suc k) h = omega (arith, h k (omega arith), upto-le f g k (λ j l. 
 pub upto-same : (f g : ℕ → ℕ) (k : ℕ) → ((j : ℕ) → j < k → f j ≡ g j) → upto f k ≡ upto g k
 upto-same f g k h = omega (arith, upto-le f g k (λ j l. omega (arith, h j l)), upto-le g f k (λ j l. omega (arith, h j l)))
 
+-- a term is no larger than the sum
+pub upto-term : (f : ℕ → ℕ) (k j : ℕ) → j < k → f j ≤ upto f k
+upto-term f zero j h = absurd (omega arith)
+upto-term f (suc k) j h = go (ℕ-discrete j k) (upto-term f k j)
+  where
+    go : Dec (j ≡ k) → (j < k → f j ≤ upto f k) → f j ≤ upto f k + f k
+    go (yes e) g = omega (arith, ap f e)
+    go (no n) g = omega (arith, g (omega arith))
+
 -- one term k times
 pub upto-const : (c k : ℕ) → upto (λ _. c) k ≡ k * c
 upto-const c zero = sym (zero-mul c)
@@ -83,6 +107,11 @@ bit-one false t = absurd t
 pub bit-none : (b : Bool) → (T b → ⊥) → bit b ≡ 0
 bit-none true f = absurd (f tt)
 bit-none false f = refl
+
+-- tests that pass together
+pub bit-iff : (a b : Bool) → T a ↔ T b → bit a ≡ bit b
+bit-iff true b e = sym (bit-one b (e .0 tt))
+bit-iff false b e = sym (bit-none b (e .1))
 
 -- two tests that never both pass
 pub bit-or : (a b : Bool) → (T a → T b → ⊥) → bit (a || b) ≡ bit a + bit b

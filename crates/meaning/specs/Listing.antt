@@ -2,13 +2,14 @@
 -- Assumes nothing.
 use mathlib.Core.Path.{_≡_}
 use mathlib.Core.Logic.{_↔_, _⊎_}
-use mathlib.Core.Bool.{Bool, _||_}
+use mathlib.Core.Bool.{Bool, not, _&&_, _||_}
 use mathlib.Core.List.{List, [], _∷_, map, List·Memᴰ}
-use Prim.Native.Nat.{ℕ, _-_, _<_}
+use Prim.Native.Nat.{ℕ, _<_}
 use lib.Dec.{eqb}
-use lib.ListN.{getD}
-use Rattle.meaning.specs.Lists.{count, positions}
+use lib.ListN.{length, getD}
+use Rattle.meaning.specs.Lists.{any, count, positions}
 use Rattle.meaning.specs.Tree.{Tree, leaf}
+use Rattle.meaning.specs.Decide.{sameTopology?}
 
 -- two positions, i and then j
 abbrev pub Pair : Type 0
@@ -48,9 +49,25 @@ neighbours ps i = count (touches i) ps
 abbrev pub counts : ℕ → List Pair → List ℕ
 counts k ps = map (neighbours ps) (positions k)
 
--- among k trees, those that a tree of n neighbours is not linked to
-abbrev pub unlinked : ℕ → ℕ → ℕ
-unlinked k n = k - 1 - n
+-- the tree at position j is a copy of the one at i: it has the same topology
+abbrev pub copyOf : List Tree → ℕ → ℕ → Bool
+copyOf ts i j = sameTopology? (treeOf ts i) (treeOf ts j)
+
+-- i and j stand in one listed pair
+abbrev pub paired : List Pair → ℕ → ℕ → Bool
+paired ps i j = any (λ p. touches i p && touches j p) ps
+
+-- the copies of the tree at position i, itself among them
+abbrev pub copies : List Tree → ℕ → ℕ
+copies ts i = count (copyOf ts i) (positions (length ts))
+
+-- the tree at position j has another topology than the one at i, and stands in no listed pair with it
+abbrev pub unlinkedFrom : List Tree → List Pair → ℕ → ℕ → Bool
+unlinkedFrom ts ps i j = not (copyOf ts i j) && not (paired ps i j)
+
+-- the unlinked number of position i: the positions that are so
+abbrev pub unlinked : List Tree → List Pair → ℕ → ℕ
+unlinked ts ps i = count (unlinkedFrom ts ps i) (positions (length ts))
 
 -- the pairs as numbers: i, then j, of each
 unfoldable pub flat : List Pair → List ℕ

@@ -28,14 +28,14 @@ firstLine k m = twoFields (bytes "trees ") k (bytes " pairs ") m
 unfoldable pub treeLine : ℕ → ℕ → ℕ → Tree → List ℕ
 treeLine i n u t = line (bytes "tree " ++ digits i ++ bytes " neighbours " ++ digits n ++ bytes " unlinked " ++ digits u ++ bytes " " ++ form t)
 
--- the line of the tree at position i among k, with the listed pairs ps
-abbrev pub treeLineOf : ℕ → List Pair → ℕ → Tree → List ℕ
-treeLineOf k ps i t = treeLine i (neighbours ps i) (unlinked k (neighbours ps i)) t
+-- the line of the tree t, at position i among the trees ts with the listed pairs ps
+abbrev pub treeLineOf : List Tree → List Pair → ℕ → Tree → List ℕ
+treeLineOf ts ps i t = treeLine i (neighbours ps i) (unlinked ts ps i) t
 
--- the lines of the trees ts, which stand from position i on
-unfoldable pub treeLines : ℕ → List Pair → ℕ → List Tree → List ℕ
-treeLines k ps i [] = []
-treeLines k ps i (t ∷ ts) = treeLineOf k ps i t ++ treeLines k ps (suc i) ts
+-- the lines of the trees us, which stand among ts from position i on
+unfoldable pub treeLines : List Tree → List Pair → ℕ → List Tree → List ℕ
+treeLines ts ps i [] = []
+treeLines ts ps i (u ∷ us) = treeLineOf ts ps i u ++ treeLines ts ps (suc i) us
 
 -- the line of the pair of i and j
 abbrev pub pairLine : ℕ → ℕ → List ℕ
@@ -48,7 +48,7 @@ pairLines (p ∷ ps) = pairLine (p .0) (p .1) ++ pairLines ps
 
 -- the sheet of the trees ts with the listed pairs ps
 unfoldable pub sheet : List Tree → List Pair → List ℕ
-sheet ts ps = firstLine (length ts) (length ps) ++ treeLines (length ts) ps 0 ts ++ pairLines ps
+sheet ts ps = firstLine (length ts) (length ps) ++ treeLines ts ps 0 ts ++ pairLines ps
 
 -- a refusal prints only its number and place
 abbrev pub refusalLine : ℕ → ℕ → List ℕ

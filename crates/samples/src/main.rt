@@ -7,6 +7,7 @@ use held::Table;
 use held::Tree;
 use libc::STDOUT_FILENO;
 use reading::Refusal;
+use sheet::Sheet;
 
 fn print(text: &[u8]) {
     io::write_all(STDOUT_FILENO, text);
@@ -144,6 +145,19 @@ fn graph(text: &[u8]) {
     }
 }
 
+// A sheet ends each of its lines itself.
+fn print_sheet(text: &[u8]) {
+    let mut out = [0u8; Sheet::MAX_BYTES];
+    print(b"sheet ");
+    print(text);
+    print(b" :\n");
+    let answer = calls::sheet_call(text, &mut out);
+    match answer {
+        TextAnswer::Written(n) => print_first(&out, n),
+        TextAnswer::Refused(x) => print_refusal(x),
+    }
+}
+
 // A slice one byte shorter than is asked for, with a text that would be refused too.
 fn short_slices() {
     let mut form_bytes = [0u8; Tree::FORM_BYTES - 1];
@@ -260,12 +274,21 @@ fn graphs() {
     graph(b"(1,2);(1,2");
 }
 
+// The sheet that document 01 prints, a table of copies, trees that are no neighbours, and a refusal's line.
+fn sheets() {
+    print_sheet(b"((2,1),3);(3,(2,1));(1,(2,3));((1,3),2);");
+    print_sheet(b"1;1;1;");
+    print_sheet(b"((((4,5),1),2),3);((((1,2),3),4),5);((3,(2,1)),4,5);");
+    print_sheet(b"((((4,5),1),2),3);((((1,2),3),4),5);((((2,1),3),4),5);");
+}
+
 fn main() {
     forms();
     cuts();
     pairs();
     tables();
     graphs();
+    sheets();
     short_slices();
     long_texts();
 }

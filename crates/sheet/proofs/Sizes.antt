@@ -20,7 +20,8 @@ use Rattle.meaning.proofs.Lent.{eight}
 use Rattle.meaning.proofs.Calls.{tells-accepted, tells-refusal, table-tells}
 use Rattle.meaning.proofs.Determined.{same-refusal}
 use Rattle.meaning.proofs.Memory.{sheet-memory}
-use Rattle.meaning.proofs.Counts.{neighbours-le, listing-few}
+use Rattle.meaning.proofs.Unlinked.{unlinked-neighbours-copies}
+use Rattle.meaning.proofs.Counts.{listing-few}
 use Rattle.meaning.proofs.Digits.{digits-one}
 use Rattle.meaning.proofs.Length.{form-length}
 use Rattle.writing.proofs.Laws.{length-digits}
@@ -58,18 +59,17 @@ pair-short : (i j : ℕ) → i < 1000 → j < 1000 → length (pairLine i j) ≤
 pair-short i j h l = omega (arith, two-length (bytes "pair ") i (bytes " ") j, three i h, three j l)
 
 module _ (ts : List Topology) (ps : List Pair) (G : AllGood ts) (L : Listing (length ts) (At Apart ts) ps) (few : length ts ≤ maxTrees) where
-  trees-short : length (treeLines (length ts) ps 0 ts) ≤ treeLineBytes * length ts
+  trees-short : length (treeLines ts ps 0 ts) ≤ treeLineBytes * length ts
   trees-short =
-      let k = length ts in
-      rw trees-rows (rows-length (treeLineOf k ps) treeLineBytes 0 ts λ i t m h.
-      let inside : i < k = omega arith in
-      let n = neighbours-le L i inside in
+      rw trees-rows (rows-length (treeLineOf ts ps) treeLineBytes 0 ts λ i t m h.
+      let inside : i < length ts = omega arith in
+      let all = unlinked-neighbours-copies ts G L i inside in
       omega (
         arith,
-        tree-length i (neighbours ps i) (unlinked k (neighbours ps i)) t,
+        tree-length i (neighbours ps i) (unlinked ts ps i) t,
         three i (omega arith),
         three (neighbours ps i) (omega arith),
-        three (unlinked k (neighbours ps i)) (omega arith),
+        three (unlinked ts ps i) (omega arith),
         form-length (good-one ts G m),
       ))
 

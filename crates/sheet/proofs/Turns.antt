@@ -4,76 +4,74 @@ use mathlib.Core.Path.{_≡_, refl, ap, ap₂, _∙_}
 use mathlib.Core.List.{List, [], _∷_, _++_, List·Memᴰ, List·Memᴰ·head, List·Memᴰ·tail}
 use Prim.Native.Nat.{ℕ, zero, suc, _+_, _*_, _≤_, _<_}
 use native.Mathlib.Omega.{arith}
-use lib.ListN.{length, take, getD, length-append, List·getD-append}
+use lib.ListN.{length, take, getD, replicate, length-append, List·getD-append}
+use Rattle.meaning.specs.Limits.{maxTrees}
 use Rattle.meaning.specs.Tree.{Tree as Topology, leaf, Good, AllGood}
-use Rattle.meaning.specs.Listing.{Pair, counts, flat, treeOf, neighbours, unlinked}
+use Rattle.meaning.specs.Listing.{Pair, flat, treeOf, unlinked}
 use Rattle.meaning.specs.Sheet.{treeLine, treeLineOf, treeLines, pairLine, pairLines}
-use Rattle.meaning.proofs.Counts.{counts-length, counts-at, neighbours-le, flat-length}
+use Rattle.meaning.proofs.Counts.{flat-length}
+use Rattle.meaning.proofs.Unlinked.{unlinked-neighbours-copies}
 use Rattle.lent.specs.Runs.{Wrote}
 use Rattle.held.specs.Kept.{Keeps, KeptRoom, heldAt}
 use Rattle.held.specs.declared.Table.{Table}
-use Rattle.sheet.specs.Lines.{TreesListed, TreeLinesFit, PairsListed, PairLinesFit}
+use Rattle.held.proofs.Kept.{keeps-good}
+use Rattle.sheet.specs.Lines.{TreesListed, unlinkedNumbers, TreeLinesFit, PairsListed, PairLinesFit}
+use Rattle.sheet.proofs.Listed.{inside, counted}
+use Rattle.sheet.proofs.Unlinked.{written-at}
 use Rattle.sheet.proofs.Rows.{rows, turn-room, turn-wrote, turns-wrote}
 
 -- ---- trees
 -- their lines are rows
-pub trees-rows : (k : ℕ) (ps : List Pair) (i : ℕ) (ts : List Topology) → treeLines k ps i ts ≡ rows (treeLineOf k ps) i ts
+pub trees-rows : (ts : List Topology) (ps : List Pair) (i : ℕ) (us : List Topology) → treeLines ts ps i us ≡ rows (treeLineOf ts ps) i us
 unfolding treeLines
-trees-rows k ps i [] = refl
-trees-rows k ps i (t ∷ ts) = ap (λ (l : List ℕ). treeLineOf k ps i t ++ l) (trees-rows k ps (suc i) ts)
+trees-rows ts ps i [] = refl
+trees-rows ts ps i (u ∷ us) = ap (λ (l : List ℕ). treeLineOf ts ps i u ++ l) (trees-rows ts ps (suc i) us)
 
 pub good-one : (ts : List Topology) → AllGood ts → {t : Topology} → List·Memᴰ t ts → Good t
 good-one (t ∷ ts) G (List·Memᴰ·head e) = rw e (G .0)
 good-one (t ∷ ts) G (List·Memᴰ·tail m) = good-one ts (G .1) m
 
--- the table's trees and their neighbour counts, at a position
-module _ {table : Table} {numbers : List ℕ} {ts : List Topology} {ps : List Pair} (L : TreesListed table numbers ts ps) where
-  pub numbers-long : length ts ≤ length numbers
-  numbers-long = omega (arith, ap length (L .counted .1), length-append (counts (length ts) ps) (L .counted .0), counts-length (length ts) ps)
+-- the array `others` begins with the unlinked numbers of the table's trees
+abbrev pub OthersNoted : Table → List ℕ → List ℕ → Type 0
+OthersNoted table numbers others = (ts : List Topology) (ps : List Pair) → TreesListed table numbers ts ps → Wrote (unlinkedNumbers ts ps) (replicate maxTrees 0) others 0 (length ts)
 
-  module _ (i : ℕ) (h : i < table .len) where
-    inside : i < length ts
-    inside = omega (arith, L .keeps .count)
+pub others-few : {table : Table} {numbers others : List ℕ} {ts : List Topology} {ps : List Pair} → OthersNoted table numbers others → TreesListed table numbers ts ps
+    → (i : ℕ) → i < length ts → getD others i 0 ≤ maxTrees
+others-few {ts} {ps} noted L i h =
+    omega (arith, written-at (unlinked ts ps) (L .keeps .few) (noted ts ps L) i h, unlinked-neighbours-copies ts (keeps-good (L .keeps)) (L .listing) i h, L .keeps .few)
 
-    counted : getD numbers i 0 ≡ neighbours ps i
-    counted =
-        ap (λ (l : List ℕ). getD l i 0) (L .counted .1) ∙ List·getD-append (counts (length ts) ps) (L .counted .0) 0 i (omega (arith, inside, counts-length (length ts) ps))
-        ∙ counts-at (length ts) ps i inside
-
-    pub few-linked : getD numbers i 0 < table .len
-    few-linked = omega (arith, counted, neighbours-le (L .listing) i inside, L .keeps .count)
-
--- the line of the tree at i, whose number of neighbours stands at i of the numbers
-abbrev pub lineAt : Table → List ℕ → ℕ → Topology → List ℕ
-lineAt table numbers i t = treeLine i (getD numbers i 0) (unlinked (table .len) (getD numbers i 0)) t
+-- the line of the tree at i, whose neighbours and unlinked number stand at i of the numbers
+abbrev pub lineAt : List ℕ → List ℕ → ℕ → Topology → List ℕ
+lineAt numbers others i t = treeLine i (getD numbers i 0) (getD others i 0) t
 
 -- the lines of the first i trees are written
 abbrev pub TreesSoFar : Table → List ℕ → List ℕ → List ℕ → ℕ → ℕ → ℕ → Type 0
-TreesSoFar table numbers out o₁ at next i = (ts : List Topology) (ps : List Pair) → TreesListed table numbers ts ps → Wrote (rows (treeLineOf (table .len) ps) 0 (take i ts)) out o₁ at next
+TreesSoFar table numbers out o₁ at next i = (ts : List Topology) (ps : List Pair) → TreesListed table numbers ts ps → Wrote (rows (treeLineOf ts ps) 0 (take i ts)) out o₁ at next
 
 module _ {table : Table} {numbers out o₁ : List ℕ} {at next i : ℕ} (w : TreesSoFar table numbers out o₁ at next i) where
-  module _ (h : i < table .len) where
-    line-is : {ts : List Topology} {ps : List Pair} → TreesListed table numbers ts ps → lineAt table numbers i (treeOf ts i) ≡ treeLineOf (table .len) ps i (treeOf ts i)
-    line-is {ts} L = ap (λ (n : ℕ). treeLine i n (unlinked (table .len) n) (treeOf ts i)) (counted L i h)
+  module _ {others : List ℕ} (noted : OthersNoted table numbers others) (h : i < table .len) where
+    line-is : {ts : List Topology} {ps : List Pair} → TreesListed table numbers ts ps → lineAt numbers others i (treeOf ts i) ≡ treeLineOf ts ps i (treeOf ts i)
+    line-is {ts} {ps} L = ap₂ (λ (n u : ℕ). treeLine i n u (treeOf ts i)) (counted L i h) (written-at (unlinked ts ps) (L .keeps .few) (noted ts ps L) i (inside L i h))
 
-    pub tree-fits : TreeLinesFit table numbers at (length out) → KeptRoom (λ t. next + length (lineAt table numbers i t)) (heldAt table i) (length o₁)
+    pub tree-fits : TreeLinesFit table numbers at (length out) → KeptRoom (λ t. next + length (lineAt numbers others i t)) (heldAt table i) (length o₁)
     tree-fits f =
         let L = f .listed in
-        let room : at + length (rows (treeLineOf (table .len) (f .linked)) 0 (f .trees)) ≤ length out = rw (L .keeps .count, ← trees-rows (length (f .trees)) (f .linked) 0 (f .trees)) (f .room) in
+        let room : at + length (rows (treeLineOf (f .trees) (f .linked)) 0 (f .trees)) ≤ length out = rw (← trees-rows (f .trees) (f .linked) 0 (f .trees)) (f .room) in
         record {
           topology = treeOf (f .trees) i;
           keeps = L .keeps .each i (inside L i h);
-          room = rw (line-is L) (turn-room (treeLineOf (table .len) (f .linked)) (leaf 0) (f .trees) i (inside L i h) (w (f .trees) (f .linked) L) room);
+          room = rw (line-is L) (turn-room (treeLineOf (f .trees) (f .linked)) (leaf 0) (f .trees) i (inside L i h) (w (f .trees) (f .linked) L) room);
         }
 
-    pub trees-more : {o₂ : List ℕ} {r : ℕ} → ((t : Topology) → Keeps (heldAt table i) t → Wrote (lineAt table numbers i t) o₁ o₂ next r) → TreesSoFar table numbers out o₂ at r (i + 1)
+    pub trees-more : {o₂ : List ℕ} {r : ℕ} → ((t : Topology) → Keeps (heldAt table i) t → Wrote (lineAt numbers others i t) o₁ o₂ next r)
+        → TreesSoFar table numbers out o₂ at r (i + 1)
     trees-more one ts ps L =
-        turn-wrote (treeLineOf (table .len) ps) (leaf 0) ts i (inside L i h) (w ts ps L) (rw (line-is L) at (one (treeOf ts i) (L .keeps .each i (inside L i h))))
+        turn-wrote (treeLineOf ts ps) (leaf 0) ts i (inside L i h) (w ts ps L) (rw (line-is L) at (one (treeOf ts i) (L .keeps .each i (inside L i h))))
 
-  pub trees-done : i ≤ table .len → table .len ≤ i → (ts : List Topology) (ps : List Pair) → TreesListed table numbers ts ps → Wrote (treeLines (length ts) ps 0 ts) out o₁ at next
+  pub trees-done : i ≤ table .len → table .len ≤ i → (ts : List Topology) (ps : List Pair) → TreesListed table numbers ts ps → Wrote (treeLines ts ps 0 ts) out o₁ at next
   trees-done h l ts ps L =
       let all : i ≡ length ts = omega (arith, L .keeps .count) in
-      rw (trees-rows (length ts) ps 0 ts, ← L .keeps .count) (turns-wrote (treeLineOf (table .len) ps) ts all (w ts ps L))
+      rw (trees-rows ts ps 0 ts) (turns-wrote (treeLineOf ts ps) ts all (w ts ps L))
 
 -- ---- pairs
 abbrev pub pairRow : ℕ → Pair → List ℕ

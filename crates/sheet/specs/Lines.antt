@@ -1,13 +1,14 @@
 -- What the writers of the sheet ask of the trees and pairs that are held, and of the room for their lines.
 -- Assumes nothing.
 use mathlib.Core.Path.{_≡_}
-use mathlib.Core.List.{List}
+use mathlib.Core.List.{List, map}
 use Prim.Native.Nat.{ℕ, _+_, _≤_}
 use lib.ListN.{length}
 use Rattle.meaning.specs.Limits.{sheetBytes}
+use Rattle.meaning.specs.Lists.{positions}
 use Rattle.meaning.specs.Tree.{Tree as Topology}
 use Rattle.meaning.specs.Move.{Apart}
-use Rattle.meaning.specs.Listing.{Pair, Listing, At, counts, flat}
+use Rattle.meaning.specs.Listing.{Pair, Listing, At, counts, unlinked, flat}
 use Rattle.meaning.specs.Sheet.{treeLines, pairLines}
 use Rattle.lent.specs.Runs.{Stands}
 use Rattle.held.specs.Kept.{KeepsAll}
@@ -19,12 +20,23 @@ pub record TreesListed (table : Table) (numbers : List ℕ) (ts : List Topology)
   pub listing : Listing (length ts) (At Apart ts) ps
   pub counted : Stands numbers 0 (counts (length ts) ps)
 
+-- there is room for a number of each tree
+pub record UnlinkedRoom (table : Table) (numbers : List ℕ) (len : ℕ) : Type 0 where
+  pub trees : List Topology
+  pub linked : List Pair
+  pub listed : TreesListed table numbers trees linked
+  pub room : length trees ≤ len
+
+-- the unlinked numbers of the positions, in order
+abbrev pub unlinkedNumbers : List Topology → List Pair → List ℕ
+unlinkedNumbers ts ps = map (unlinked ts ps) (positions (length ts))
+
 -- there is room for their lines
 pub record TreeLinesFit (table : Table) (numbers : List ℕ) (at len : ℕ) : Type 0 where
   pub trees : List Topology
   pub linked : List Pair
   pub listed : TreesListed table numbers trees linked
-  pub room : at + length (treeLines (length trees) linked 0 trees) ≤ len
+  pub room : at + length (treeLines trees linked 0 trees) ≤ len
 
 -- `numbers` begins with the m pairs ps
 pub record PairsListed (numbers : List ℕ) (m : ℕ) (ps : List Pair) : Type 0 where

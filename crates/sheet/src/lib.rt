@@ -12,7 +12,7 @@ ghost use Rattle.meaning.specs.Listing.{Pair};
 ghost use Rattle.meaning.specs.Sheet.{treeLines, pairLines, sheet};
 ghost use Rattle.lent.specs.Runs.{Wrote};
 ghost use Rattle.held.specs.Kept.{KeepsAll};
-ghost use Rattle.sheet.specs.Lines.{TreesListed, TreeLinesFit, PairsListed, PairLinesFit, SheetFits};
+ghost use Rattle.sheet.specs.Lines.{TreesListed, UnlinkedRoom, unlinkedNumbers, TreeLinesFit, PairsListed, PairLinesFit, SheetFits};
 ghost use Rattle.sheet.specs.Printed.{TableFits, SheetWritten, Printed};
 
 // The home of the sheet's size.
@@ -32,18 +32,40 @@ impl Sheet {
         + Table::PAIR_NUMBERS / 2 * Sheet::PAIR_LINE;
 }
 
+// Writes the unlinked number of each tree, from the start of `unlinked` on: all trees less its neighbours, whose numbers
+// `counts` begins with, and less its copies, which are the trees with the same first position.
+fn note_unlinked(unlinked: &mut [u16], counts: &[u16], table: Table)
+    requires { ⌜ UnlinkedRoom table (now counts) (length (now unlinked)) ⌝ }
+    ensures { λ _. ⌜
+        ((ts : List Topology) (ps : List Pair) → TreesListed table (now (counts .entry)) ts ps
+        → Wrote (unlinkedNumbers ts ps) (now (unlinked .entry)) (now (unlinked .exit)) 0 (length ts)) ⌝ }
+{
+    let n = table.len;
+    let mut firsts = [0u16; Table::MAX_TREES];
+    held::note_firsts(&mut firsts, table);
+    let mut copies = [0u16; Table::MAX_TREES];
+    lent::tally(&mut copies, &firsts, n);
+    for i in 0..n {
+        let linked = counts[i] as usize;
+        let same = copies[firsts[i] as usize] as usize;
+        unlinked[i] = (n - linked - same) as u16;
+    }
+}
+
 // Writes a line for each tree of the table; the numbers in `counts` begin with their neighbour counts.
 fn write_tree_lines(out: &mut [u8], at: usize, table: Table, counts: &[u16]) -> usize
     requires { ⌜ TreeLinesFit table (now counts) at (length (now out)) ⌝ }
     ensures { λ r. ⌜
         ((ts : List Topology) (ps : List Pair) → TreesListed table (now (counts .entry)) ts ps
-        → Wrote (treeLines (length ts) ps 0 ts) (now (out .entry)) (now (out .exit)) at r) ⌝ }
+        → Wrote (treeLines ts ps 0 ts) (now (out .entry)) (now (out .exit)) at r) ⌝ }
 {
-    let n = table.len;
+    let mut unlinked = [0u16; Table::MAX_TREES];
+    note_unlinked(&mut unlinked, counts, table);
     let mut next = at;
-    for i in 0..n {
-        let linked = counts[i] as usize;
-        next = writing::write_tree_line(out, next, i, linked, n - 1 - linked, table.trees[i]);
+    for i in 0..table.len {
+        let neighbours = counts[i] as usize;
+        let others = unlinked[i] as usize;
+        next = writing::write_tree_line(out, next, i, neighbours, others, table.trees[i]);
     }
     next
 }
