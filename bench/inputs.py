@@ -16,6 +16,7 @@ Full tables, 160 trees of 64 leaves:
     combs        every fork has a leaf as a child; each tree is one, two or
                  three moves of a leaf from the one before
     copies       one topology, with children swapped
+    interchange_chain  each tree one random interchange from the one before
 
 Growth, for `unrelated` and `chain`: the first 20, 40 and 80 trees of the full
 table, and 160 trees of 8, 16 and 32 leaves.  The full tables are the last step
@@ -94,6 +95,15 @@ def moved(rng, tree):
             return result
 
 
+def interchanged(rng, tree):
+    """The result of one random interchange: a node goes above its aunt."""
+    *above, side, under = rng.choice([path for path in paths(tree) if len(path) > 1])
+    place = tuple(above)
+    fork = subtree(tree, place)
+    parent, aunt = fork[side], fork[1 - side]
+    return replaced(tree, place, (parent[1 - under], (parent[under], aunt)))
+
+
 def comb(labels):
     """The comb with these labels from the root downwards."""
     tree = labels[-1]
@@ -133,6 +143,14 @@ def chain(rng, leaves):
     trees = [random_tree(rng, leaves)]
     while len(trees) < TREES:
         trees.append(moved(rng, trees[-1]))
+    return trees
+
+
+def interchange_chain(rng, leaves):
+    """Each tree is one random interchange from the one before."""
+    trees = [random_tree(rng, leaves)]
+    while len(trees) < TREES:
+        trees.append(interchanged(rng, trees[-1]))
     return trees
 
 
@@ -184,7 +202,7 @@ def lines_of(make, leaves):
 
 def inputs():
     """Yield (name, text) for each input, growing ones from small to large."""
-    full = {make: lines_of(make, LEAVES) for make in (unrelated, chain, near_copies, combs, copies)}
+    full = {make: lines_of(make, LEAVES) for make in (unrelated, chain, near_copies, combs, copies, interchange_chain)}
     for make, lines in full.items():
         yield make.__name__, "".join(lines)
     for make in (unrelated, chain):

@@ -1,11 +1,13 @@
 #!/usr/bin/env python3
 """Compare the speed of a pair lister with the plain program's.
 
-    run.py [OUR_PROGRAM] [--repeat N]
+    run.py [OUR_PROGRAM] [--interchanges] [--repeat N]
 
 OUR_PROGRAM is the path of an executable that reads a table of trees from
 standard input and prints the sheet; if it is left out, the pair lister is built
-for this machine by tools/native.sh.  The plain program is built first.  Both
+for this machine by tools/native.sh.  With --interchanges it is the program of
+tests/independent/interchanges.c, which bindings/test.sh builds, and both print
+the graph of interchanges.  The plain program is built first.  Both
 are run on each input of inputs.py.  The first run of each is for comparing the
 outputs; if they differ, or a table is refused, or a program is ended by a
 signal, the exit status is 1.
@@ -66,37 +68,37 @@ def build_ours(directory):
     return program
 
 
-def output_of(program, path):
+def output_of(command, path):
     """What the program prints for this input."""
     with open(path, "rb") as text:
-        done = subprocess.run([program], stdin=text, stdout=subprocess.PIPE, check=False)
+        done = subprocess.run(command, stdin=text, stdout=subprocess.PIPE, check=False)
     if done.returncode < 0:
         raise Failed("%s: ended by signal %d on %s"
-                     % (program, -done.returncode, os.path.basename(path)))
+                     % (command[0], -done.returncode, os.path.basename(path)))
     return done.stdout
 
 
-def milliseconds(program, path):
+def milliseconds(command, path):
     """The wall time of one run, output discarded."""
     with open(path, "rb") as text:
         start = time.perf_counter_ns()
-        subprocess.run([program], stdin=text, stdout=subprocess.DEVNULL, check=False)
+        subprocess.run(command, stdin=text, stdout=subprocess.DEVNULL, check=False)
         return (time.perf_counter_ns() - start) / 1e6
 
 
-def best_times(programs, path, repeat):
+def best_times(commands, path, repeat):
     """The best time of each program.  They take turns, so that a change in the
     machine's speed meets both."""
-    best = [float("inf")] * len(programs)
+    best = [float("inf")] * len(commands)
     for _ in range(repeat):
-        for i, program in enumerate(programs):
-            best[i] = min(best[i], milliseconds(program, path))
+        for i, command in enumerate(commands):
+            best[i] = min(best[i], milliseconds(command, path))
     return best
 
 
-def compared_output(programs, path):
+def compared_output(commands, path):
     """The output of the programs, which must be the same."""
-    ours, plain = (output_of(program, path) for program in programs)
+    ours, plain = (output_of(command, path) for command in commands)
     if ours != plain:
         raise Failed("the outputs differ on %s" % os.path.basename(path))
     return ours
@@ -141,24 +143,24 @@ def rustc_version():
     return done.stdout.decode().strip()
 
 
-def run(ours, repeat, directory):
-    """Build, measure and print the table."""
-    programs = (ours or build_ours(directory), build_plain())
+def run(ours, options, repeat, directory):
+    """Build, measure and print the table; `options` are the plain program's."""
+    commands = ([ours or build_ours(directory)], [build_plain()] + options)
     print("CPU: %s, %d cores" % (cpu_model(), os.cpu_count() or 0))
     print(rustc_version())
 
     empty = os.path.join(directory, "empty.txt")
     with open(empty, "wb"):
         pass
-    compared_output(programs, empty)
-    start = best_times(programs, empty, repeat * EMPTY_REPEAT_FACTOR)
+    compared_output(commands, empty)
+    start = best_times(commands, empty, repeat * EMPTY_REPEAT_FACTOR)
     print("best of %d; process start (subtracted): ours %.2f ms, plain %.2f ms\n"
           % (repeat, start[0], start[1]))
 
     print(ROW % ("input", "trees", "leaves", "pairs", "ours ms", "plain ms", "ours/plain"))
     for name, path in inputs.write_inputs(os.path.join(directory, "inputs")):
-        size = size_of(path, compared_output(programs, path))
-        times = best_times(programs, path, repeat)
+        size = size_of(path, compared_output(commands, path))
+        times = best_times(commands, path, repeat)
         our_time, plain_time = (max(0.0, t - s) for t, s in zip(times, start))
         print(ROW % ((name,) + size + ("%.2f" % our_time, "%.2f" % plain_time,
                                        ratio_text(our_time, plain_time))), flush=True)
@@ -177,14 +179,18 @@ def main(arguments):
     parser = argparse.ArgumentParser(description="Compare a pair lister's speed with the plain program's.")
     parser.add_argument("program", metavar="OUR_PROGRAM", nargs="?",
                         help="path of the pair lister; built for this machine if left out")
+    parser.add_argument("--interchanges", action="store_true",
+                        help="OUR_PROGRAM prints the graph of interchanges")
     parser.add_argument("--repeat", metavar="N", type=positive, default=DEFAULT_REPEAT)
     options = parser.parse_args(arguments)
     program = options.program and os.path.abspath(options.program)
     if program and (not os.access(program, os.X_OK) or os.path.isdir(program)):
         parser.error("not an executable file: %s" % options.program)
+    if options.interchanges and not program:
+        parser.error("--interchanges needs OUR_PROGRAM")
     try:
         with tempfile.TemporaryDirectory() as directory:
-            run(program, options.repeat, directory)
+            run(program, ["--interchanges"] if options.interchanges else [], options.repeat, directory)
     except Failed as failed:
         print("failed: %s" % failed, file=sys.stderr)
         return 1

@@ -1,9 +1,9 @@
 /*
  * Norbelath: rooted binary trees as texts, and which of them are one prune and regraft apart.
  *
- * Six calls over lent memory. They allocate nothing, keep nothing between calls and may be called from several threads
- * at once; the table and graph calls use about 120 KB of stack, the sheet call about 170 KB. Any bytes may be given as a
- * text: what is not as it should be is refused, with the reason and the place.
+ * Seven calls over lent memory. They allocate nothing, keep nothing between calls and may be called from several
+ * threads at once; the table, graph and interchange calls use about 120 KB of stack, the sheet call about 170 KB. Any
+ * bytes may be given as a text: what is not as it should be is refused, with the reason and the place.
  *
  * A text is a pointer and its length in bytes; it needs no byte 0 at its end. A lent slice is a pointer and its length in
  * elements. No pointer is NULL. The slices and numbers that a call may write overlap neither each other nor a text.
@@ -15,7 +15,8 @@
  *   sheet
  *   pair            1 for yes, 0 for no          0
  *   table           bytes written                trees
- *   graph           trees                        pairs
+ *   graph,          trees                        pairs
+ *   interchanges
  *   refused         which text: 0, or 1 for      the place: an offset in that text,
  *                   the pair call's other        its length where it ends too soon
  *
@@ -36,7 +37,10 @@ extern "C" {
 #define NORBELATH_MAX_TEXT 65535
 #define NORBELATH_MAX_TREES 160
 
-/* The least lengths of the lent slices, in elements. A shorter slice is refused, a longer one is used as far as needed. */
+/*
+ * The least lengths of the lent slices, in elements. A shorter slice is refused, a longer one is used as far as
+ * needed. The interchange call has those of the graph call.
+ */
 #define NORBELATH_FORM_OUT 309
 #define NORBELATH_CUT_OUT 307
 #define NORBELATH_TABLE_TEXTS 49440
@@ -92,6 +96,16 @@ uint8_t norbelath_graph(const uint8_t *text, size_t text_len,
                         uint16_t *pairs, size_t pairs_len,
                         uint16_t *counts, size_t counts_len,
                         uint64_t *first, uint64_t *second);
+
+/*
+ * Interchange call: the pairs of trees of a text that are one nearest-neighbour interchange apart, in the order and
+ * the slices of the graph call. An interchange takes a node that is neither the root nor a child of the root and
+ * regrafts it on the edge above its aunt, the sibling of its parent.
+ */
+uint8_t norbelath_interchanges(const uint8_t *text, size_t text_len,
+                               uint16_t *pairs, size_t pairs_len,
+                               uint16_t *counts, size_t counts_len,
+                               uint64_t *first, uint64_t *second);
 
 /*
  * Sheet call: what the pair lister prints for a text. A text that is refused has its sheet too, the line `refused N at P`:

@@ -107,23 +107,45 @@ static void table_refused(const char *text, size_t text_len, size_t texts_len, s
           "a refusal changed a slice");
 }
 
-static struct reply graph(const char *text, size_t text_len, size_t pairs_len, size_t counts_len)
+/* A call that lists pairs, and its name: the graph call or the interchange call. */
+struct lister {
+    const char *name;
+    uint8_t (*call)(const uint8_t *text, size_t text_len, uint16_t *pairs, size_t pairs_len, uint16_t *counts,
+                    size_t counts_len, uint64_t *first, uint64_t *second);
+};
+
+static const struct lister graph = {"graph", norbelath_graph};
+static const struct lister interchanges = {"interchanges", norbelath_interchanges};
+
+static struct reply list(struct lister l, const char *text, size_t text_len, size_t pairs_len, size_t counts_len)
 {
     struct reply r = {99, 99, 99};
     memset(pairs, UNTOUCHED, sizeof pairs);
     memset(counts, UNTOUCHED, sizeof counts);
-    r.result = norbelath_graph((const uint8_t *)text, text_len, pairs, pairs_len, counts, counts_len, &r.first,
-                               &r.second);
+    r.result = l.call((const uint8_t *)text, text_len, pairs, pairs_len, counts, counts_len, &r.first, &r.second);
     return r;
 }
 
-static void graph_refused(const char *text, size_t text_len, size_t pairs_len, size_t counts_len, uint8_t number,
-                          uint64_t place)
+static void list_refused(struct lister l, const char *text, size_t text_len, size_t pairs_len, size_t counts_len,
+                         uint8_t number, uint64_t place)
 {
-    struct reply r = graph(text, text_len, pairs_len, counts_len);
-    check(same(r, number, 0, place), "graph", text, "another refusal was expected");
-    check(untouched(pairs, 0, sizeof pairs) && untouched(counts, 0, sizeof counts), "graph", text,
+    struct reply r = list(l, text, text_len, pairs_len, counts_len);
+    check(same(r, number, 0, place), l.name, text, "another refusal was expected");
+    check(untouched(pairs, 0, sizeof pairs) && untouched(counts, 0, sizeof counts), l.name, text,
           "a refusal changed a slice");
+}
+
+/* The numbers of `expected` are i and then j of each pair, those of `neighbours` are the counts. */
+static void listed(struct lister l, const char *text, const uint16_t *expected, size_t number_of_pairs,
+                   const uint16_t *neighbours, size_t number_of_trees)
+{
+    const size_t pairs_size = 2 * number_of_pairs * sizeof pairs[0], counts_size = number_of_trees * sizeof counts[0];
+    struct reply r = list(l, text, strlen(text), NORBELATH_GRAPH_PAIRS, NORBELATH_GRAPH_COUNTS);
+    check(same(r, NORBELATH_ACCEPTED, number_of_trees, number_of_pairs), l.name, text, "another answer was expected");
+    check(memcmp(pairs, expected, pairs_size) == 0 && memcmp(counts, neighbours, counts_size) == 0, l.name, text,
+          "other pairs were expected");
+    check(untouched(pairs, pairs_size, sizeof pairs) && untouched(counts, counts_size, sizeof counts), l.name, text,
+          "a slice was changed behind what was written");
 }
 
 /* One byte more than the sheet call asks for. */
@@ -221,22 +243,28 @@ static void tables(void)
     table_refused(text, strlen(text), bytes, numbers - 1, NORBELATH_SHORT_SLICE, 0);
 }
 
-static void graphs(void)
+/* What both calls give: of three leaves, two trees that differ are one interchange apart. Copies are no pair. */
+static void lists(struct lister l)
 {
     const size_t numbers = NORBELATH_GRAPH_PAIRS, trees = NORBELATH_GRAPH_COUNTS;
     const char *text = "((2,1),3);\n(3,(2,1));\n(1,(2,3));\n((1,3),2);\n";
     const uint16_t expected[] = {0, 2, 0, 3, 1, 2, 1, 3, 2, 3};
     const uint16_t neighbours[] = {2, 2, 3, 3};
-    struct reply r = graph(text, strlen(text), numbers, trees);
-    check(same(r, NORBELATH_ACCEPTED, 4, 5), "graph", text, "another answer was expected");
-    check(memcmp(pairs, expected, sizeof expected) == 0 && memcmp(counts, neighbours, sizeof neighbours) == 0, "graph",
-          text, "other pairs were expected");
-    check(untouched(pairs, sizeof expected, sizeof pairs) && untouched(counts, sizeof neighbours, sizeof counts),
-          "graph", text, "a slice was changed behind what was written");
+    listed(l, text, expected, 5, neighbours, 4);
+    listed(l, "(1,2); (2,1);", expected, 0, (const uint16_t[]){0, 0}, 2);
+    listed(l, "", expected, 0, neighbours, 0);
 
-    graph_refused("(1,2);(1,3);", 12, numbers, trees, NORBELATH_LABELS_DIFFER, 11);
-    graph_refused(text, strlen(text), numbers - 1, trees, NORBELATH_SHORT_SLICE, 0);
-    graph_refused(text, strlen(text), numbers, trees - 1, NORBELATH_SHORT_SLICE, 0);
+    list_refused(l, "(1,2);(1,3);", 12, numbers, trees, NORBELATH_LABELS_DIFFER, 11);
+    list_refused(l, text, strlen(text), numbers - 1, trees, NORBELATH_SHORT_SLICE, 0);
+    list_refused(l, text, strlen(text), numbers, trees - 1, NORBELATH_SHORT_SLICE, 0);
+}
+
+/* Three trees that are one move from each other; an interchange joins only the first two. */
+static void moves_and_interchanges(void)
+{
+    const char *text = "(((1,2),3),4);((1,2),(3,4));(((1,4),2),3);";
+    listed(graph, text, (const uint16_t[]){0, 1, 0, 2, 1, 2}, 3, (const uint16_t[]){2, 2, 2}, 3);
+    listed(interchanges, text, (const uint16_t[]){0, 1}, 1, (const uint16_t[]){1, 1, 0}, 3);
 }
 
 /* What the pair lister prints, of a table and of a text that is refused; line 7 is the only refusal. */
@@ -260,6 +288,14 @@ static void sheets(void)
     sheet("(1,2", 4, 0, NULL);
 }
 
+/* 160 copies in so many bytes, and one copy behind them. */
+static void list_limits(struct lister l, const char *text, size_t full, size_t size)
+{
+    struct reply r = list(l, text, full, NORBELATH_GRAPH_PAIRS, NORBELATH_GRAPH_COUNTS);
+    check(same(r, NORBELATH_ACCEPTED, NORBELATH_MAX_TREES, 0), l.name, text, "160 trees were expected");
+    list_refused(l, text, full + size, NORBELATH_GRAPH_PAIRS, NORBELATH_GRAPH_COUNTS, NORBELATH_TOO_MANY_TREES, full);
+}
+
 /* 160 trees are accepted and a 161st is refused; so is a text of one byte too many, whatever it holds. */
 static void limits(void)
 {
@@ -271,18 +307,18 @@ static void limits(void)
     const size_t full = NORBELATH_MAX_TREES * size;
     struct reply r = table(text, full, NORBELATH_TABLE_TEXTS, NORBELATH_TABLE_ENDS);
     check(same(r, NORBELATH_ACCEPTED, full, NORBELATH_MAX_TREES), "table", text, "160 trees were expected");
-    r = graph(text, full, NORBELATH_GRAPH_PAIRS, NORBELATH_GRAPH_COUNTS);
-    check(same(r, NORBELATH_ACCEPTED, NORBELATH_MAX_TREES, 0), "graph", text, "160 trees were expected");
     table_refused(text, full + size, NORBELATH_TABLE_TEXTS, NORBELATH_TABLE_ENDS, NORBELATH_TOO_MANY_TREES, full);
-    graph_refused(text, full + size, NORBELATH_GRAPH_PAIRS, NORBELATH_GRAPH_COUNTS, NORBELATH_TOO_MANY_TREES, full);
-
+    list_limits(graph, text, full, size);
+    list_limits(interchanges, text, full, size);
     sheet(text, full + size, NORBELATH_SHEET_OUT, "refused 6 at 960\n");
 
     memset(text, ' ', sizeof text);
     r = table(text, NORBELATH_MAX_TEXT, NORBELATH_TABLE_TEXTS, NORBELATH_TABLE_ENDS);
     check(same(r, NORBELATH_ACCEPTED, 0, 0), "table", "blanks", "no trees were expected");
     table_refused(text, sizeof text, NORBELATH_TABLE_TEXTS, NORBELATH_TABLE_ENDS, NORBELATH_LONG_TEXT, 0);
-    graph_refused(text, sizeof text, NORBELATH_GRAPH_PAIRS, NORBELATH_GRAPH_COUNTS, NORBELATH_LONG_TEXT, 0);
+    list_refused(graph, text, sizeof text, NORBELATH_GRAPH_PAIRS, NORBELATH_GRAPH_COUNTS, NORBELATH_LONG_TEXT, 0);
+    list_refused(interchanges, text, sizeof text, NORBELATH_GRAPH_PAIRS, NORBELATH_GRAPH_COUNTS,
+                 NORBELATH_LONG_TEXT, 0);
     sheet(text, NORBELATH_MAX_TEXT, NORBELATH_SHEET_OUT, "trees 0 pairs 0\n");
     sheet(text, sizeof text, NORBELATH_SHEET_OUT, "refused 8 at 0\n");
     sheet(text, sizeof text, NORBELATH_SHEET_OUT - 1, NULL);
@@ -295,7 +331,9 @@ int main(void)
     cuts();
     pair_answers();
     tables();
-    graphs();
+    lists(graph);
+    lists(interchanges);
+    moves_and_interchanges();
     sheets();
     limits();
     printf("C: %d checks, %d failed\n", checks, failures);

@@ -1,14 +1,16 @@
 #!/usr/bin/env python3
 """Compare a pair lister with reference.py on generated cases.
 
-    compare.py PROGRAM [--seed S] [--count N]
+    compare.py PROGRAM [--interchanges] [--seed S] [--count N]
 
 PROGRAM is the path of an executable that reads a table of trees from standard
-input and writes the sheet to standard output.  It is run once for each case of
-generate.py, and its output must be the reference's sheet, byte for byte.  A
-program that is ended by a signal, or runs longer than the time limit for one
-case, counts as a mismatch.  Its exit status and standard error are shown with
-a mismatch but not judged, since document 01 says nothing about them.
+input and writes the sheet to standard output; with --interchanges it is the
+program of interchanges.c, and the sheet is that of the interchange call.  It is
+run once for each case of generate.py, and its output must be the reference's
+sheet, byte for byte.  A program that is ended by a signal, or runs longer than
+the time limit for one case, counts as a mismatch.  Its exit status and standard
+error are shown with a mismatch but not judged, since document 01 says nothing
+about them.
 
 The exit status is 1 if there was a mismatch, or if one of the refusal numbers
 1, 2, 3, 4, 5, 6 and 8 never came up, so that the comparison says less than it
@@ -100,12 +102,15 @@ def refusal_number(expected):
     return int(words[1]) if words[0] == b"refused" else None
 
 
-def compare(program, seed, count):
-    """Run all cases.  Gives the number of mismatches and refusal counts."""
+def compare(program, sheet, seed, count):
+    """Run all cases.  Gives the number of mismatches and refusal counts.
+
+    `sheet` is the reference's function of the same output.
+    """
     seen = dict.fromkeys(REFUSALS_OF_THE_LISTER, 0)
     mismatches = 0
     for position, kind, text in generate.cases(seed, count):
-        expected = reference.sheet(text)
+        expected = sheet(text)
         number = refusal_number(expected)
         if number is not None:
             seen[number] += 1
@@ -121,13 +126,16 @@ def main(arguments):
     """Read the command line, compare, print the last line; exit status."""
     parser = argparse.ArgumentParser(description="Compare a pair lister with the reference program.")
     parser.add_argument("program", help="path of the pair lister")
+    parser.add_argument("--interchanges", action="store_true",
+                        help="the program is that of interchanges.c")
     parser.add_argument("--seed", type=int, default=1)
     parser.add_argument("--count", type=int, default=DEFAULT_COUNT)
     options = parser.parse_args(arguments)
     program = os.path.abspath(options.program)
     if not os.access(program, os.X_OK) or os.path.isdir(program):
         parser.error("not an executable file: %s" % options.program)
-    mismatches, seen = compare(program, options.seed, options.count)
+    sheet = reference.interchange_sheet if options.interchanges else reference.sheet
+    mismatches, seen = compare(program, sheet, options.seed, options.count)
     missing = [number for number in seen if seen[number] == 0]
     if missing:
         print("never seen: refusal %s" % ", ".join(map(str, missing)))

@@ -1,16 +1,17 @@
 #!/usr/bin/env python3
-"""Test inputs for the pair lister.
+"""Test inputs for the pair lister, and for the program of interchanges.
 
     generate.py SEED COUNT OUTDIR
 
-writes COUNT files into OUTDIR, each one standard input for the pair lister.
+writes COUNT files into OUTDIR, each one standard input for these programs.
 The same seed gives the same files, and a case depends on the seed and its own
 position only, so a larger COUNT keeps the earlier cases.  A file name holds
 the position and the kind of the case: `00017-one-move-apart.txt`.
 
 The first cases are the fixed ones (the same for every seed): the samples of
-document 01, the limits and their neighbours, and a text for each way a refusal
-can come about.  All others are drawn at random.
+document 01, all trees of up to five leaves, the limits and their neighbours,
+and a text for each way a refusal can come about.  All others are drawn at
+random.
 
 Trees are nested tuples here: a leaf is its label, a fork is (first, second).
 A node is named by its path from the root, a tuple of 0 and 1.  Nothing is
@@ -104,6 +105,23 @@ def all_moves(tree):
     ]
 
 
+def interchange(tree, source):
+    """Prune at `source`, two steps or more below the root, and regraft above
+    its aunt, whose path is the same in the remainder."""
+    above, side = source[:-2], source[-2]
+    return move(tree, source, above + (1 - side,))
+
+
+def interchange_sources(tree):
+    """The paths of the nodes that are neither the root nor its child."""
+    return [path for path in paths(tree) if len(path) >= 2]
+
+
+def all_interchanges(tree):
+    """The results of all interchanges on a tree, as a list."""
+    return [interchange(tree, source) for source in interchange_sources(tree)]
+
+
 def shape(tree):
     """A value that is equal for equal topologies: children unordered."""
     if is_leaf(tree):
@@ -136,6 +154,22 @@ def two_moves(rng, tree):
         moved = random_move(rng, random_move(rng, tree))
         if shape(moved) not in near:
             return moved
+
+
+def random_interchange(rng, tree):
+    """The result of one random interchange; needs three leaves."""
+    return interchange(tree, rng.choice(interchange_sources(tree)))
+
+
+def all_trees(labels):
+    """One tree for each topology on these labels."""
+    if len(labels) == 1:
+        return [labels[0]]
+    return [
+        replaced(tree, path, (subtree(tree, path), labels[-1]))
+        for tree in all_trees(labels[:-1])
+        for path in paths(tree)
+    ]
 
 
 def random_tree(rng, labels):
@@ -325,6 +359,21 @@ def large_table(rng):
     for _ in range(rng.randint(1, 2)):
         moved = random_move(rng, trees[-1])
         if rng.random() < 0.3:
+            moved = random_move(rng, moved)
+        trees.append(swapped(rng, moved))
+    return trees
+
+
+def interchange_table(rng):
+    """Trees of 3 to 64 leaves, each one or two interchanges or a move from an
+    earlier one."""
+    trees = [random_tree(rng, random_labels(rng, rng.choice((3, 4, 5, 6, 7, 8, 12, 20, 64))))]
+    for _ in range(rng.randint(1, 4)):
+        moved = random_interchange(rng, rng.choice(trees))
+        way = rng.random()
+        if way < 0.3:
+            moved = random_interchange(rng, moved)
+        elif way < 0.4:
             moved = random_move(rng, moved)
         trees.append(swapped(rng, moved))
     return trees
@@ -523,6 +572,7 @@ KINDS = (
     ("one-move-apart", 8, accepted(one_move_table)),
     ("two-moves-apart", 6, accepted(two_moves_table)),
     ("large", 1, accepted(large_table)),
+    ("interchanges", 4, accepted(interchange_table)),
     ("crowd", 1, accepted(crowded_table)),
     ("deep-comb", 1, deep_comb),
     ("damaged-bytes", 12, damaged_bytes),
@@ -657,24 +707,17 @@ def length_cases():
 
 
 def all_small_trees_cases():
-    """All topologies of 3 and of 4 leaves in one table each."""
-    cases = []
-    for labels in ((1, 2, 3), (64, 10, 2), (1, 2, 3, 4), (9, 10, 33, 64)):
-        trees = [labels[0]]
-        for label in labels[1:]:
-            trees = [
-                replaced(tree, path, (subtree(tree, path), label))
-                for tree in trees for path in paths(tree)
-            ]
-        cases.append(("all-topologies", plain(trees)))
-    return cases
+    """All topologies of 1 to 5 leaves in one table each."""
+    label_sets = [ALL_LABELS[:size] for size in range(1, 6)]
+    label_sets += [(64, 10, 2), (9, 10, 33, 64), (10, 2, 64, 9, 33)]
+    return [("all-topologies", plain(all_trees(labels))) for labels in label_sets]
 
 
 def fixed_cases():
     """All fixed cases as (kind, text)."""
     return (
-        sample_cases() + byte_cases() + label_cases() + label_set_cases()
-        + depth_cases() + count_cases() + length_cases() + all_small_trees_cases()
+        sample_cases() + all_small_trees_cases() + byte_cases() + label_cases()
+        + label_set_cases() + depth_cases() + count_cases() + length_cases()
     )
 
 

@@ -1,18 +1,21 @@
 #!/usr/bin/env python3
-"""Reference program for the pair lister, written from document 01 alone.
+"""Reference program for the pair lister, written from document 01 and, for
+interchanges, ticket 2 of document 02.
 
 As a command it reads a table of trees from standard input and writes the
-pair lister's sheet to standard output.  As a module it offers the five calls
+pair lister's sheet to standard output.  As a module it offers the calls
 
     form(text)            the canonical text (bytes)
     cut(text, number)     the forest text of that cut (bytes)
     pair(text0, text1)    True or False: one move apart
     table(text)           Table(texts, ends)
     graph(text)           Graph(pairs, counts)
+    interchanges(text)    the same for one interchange in place of one move
 
-and `sheet(text)`, the bytes the command prints.  Texts are bytes.  A call
-that refuses returns a Refusal(number, text, place) instead; it is a tuple and
-equals the plain tuple of the same three numbers.
+and `sheet(text)`, the bytes the command prints, with `interchange_sheet(text)`
+for those of interchanges.c.  Texts are bytes.  A call that refuses returns a
+Refusal(number, text, place) instead; it is a tuple and equals the plain tuple
+of the same three numbers.
 
 How pairs are decided.  A tree's topology is the frozenset of its clades, and
 a clade is a frozenset of labels.  All trees that one move makes from the first
@@ -20,13 +23,16 @@ tree are gone through: every node but the root is pruned, the remainder is
 closed up, and the pruned subtree is hung on every edge of the remainder and
 above its root.  Two trees are one move apart when their topologies differ and
 the second's topology is among those of the results.  No forests are compared
-anywhere, so Lemma 2.2 of document 001 is not used.
+anywhere, so Lemma 2.2 of document 001 is not used.  Interchanges are gone
+through in the same way: every node that is neither the root nor a child of the
+root is taken off and regrafted above its aunt.
 
 The values here are returned, not written into lent memory, so refusal 7 (a
 lent slice too short) does not arise.
 """
 
 import functools
+import itertools
 import sys
 from typing import NamedTuple
 
@@ -206,6 +212,41 @@ def one_move_apart(first, second):
     return first.clades != second.clades and second.clades in reached(first)
 
 
+# Interchanges
+
+
+def interchanged(tree):
+    """Yield the tree that each interchange makes.
+
+    The root's grandchildren are taken first; then each child is looked at as
+    the root of a tree of its own.
+    """
+    if not tree.children:
+        return
+    first, second = tree.children
+    yield from above_the_aunt(first, second)
+    yield from above_the_aunt(second, first)
+    for child in interchanged(first):
+        yield fork(child, second)
+    for child in interchanged(second):
+        yield fork(first, child)
+
+
+def above_the_aunt(parent, aunt):
+    """Yield fork(parent, aunt) with each child of the parent regrafted.
+
+    The parent is closed up, which puts the child's sibling in its place, and
+    the new fork is on the edge above the aunt.  A leaf has no children.
+    """
+    for node, sibling in itertools.permutations(parent.children, 2):
+        yield fork(sibling, fork(node, aunt))
+
+
+def reached_by_interchange(tree):
+    """The set of topologies that one interchange makes from the tree."""
+    return {result.clades for result in interchanged(tree)}
+
+
 # Reading
 
 
@@ -359,7 +400,13 @@ def table(text):
 @returns_refusal
 def graph(text):
     """The listed pairs of a table and the neighbour count of each tree."""
-    return graph_of(read_table(text))
+    return graph_of(read_table(text), reached)
+
+
+@returns_refusal
+def interchanges(text):
+    """The same for one interchange in place of one move."""
+    return graph_of(read_table(text), reached_by_interchange)
 
 
 def table_of(trees):
@@ -373,8 +420,11 @@ def table_of(trees):
     return Table(texts, ends)
 
 
-def graph_of(trees):
-    """The Graph of trees already read."""
+def graph_of(trees, reach):
+    """The Graph of trees already read.
+
+    `reach` gives the set of topologies that one step makes from a tree.
+    """
     kinds = number_topologies(trees)
     reached_from = {}  # by kind, so that copies are worked out once
     pairs = []
@@ -384,7 +434,7 @@ def graph_of(trees):
             if kinds[i] == kinds[j]:
                 continue
             if kinds[i] not in reached_from:
-                reached_from[kinds[i]] = reached(first)
+                reached_from[kinds[i]] = reach(first)
             if trees[j].clades in reached_from[kinds[i]]:
                 pairs.append((i, j))
                 counts[i] += 1
@@ -398,7 +448,7 @@ def number_topologies(trees):
     return [numbers.setdefault(tree.clades, len(numbers)) for tree in trees]
 
 
-# The sheet
+# The sheets
 
 
 def sheet(text):
@@ -406,21 +456,41 @@ def sheet(text):
     try:
         trees = read_table(text)
     except Refused as refused:
-        return b"refused %d at %d\n" % (refused.refusal.number, refused.refusal.place)
-    return sheet_of(table_of(trees), graph_of(trees))
+        return refusal_line(refused.refusal)
+    return sheet_of(table_of(trees), graph_of(trees, reached))
+
+
+def interchange_sheet(text):
+    """What interchanges.c prints for this standard input."""
+    answer = interchanges(text)
+    if isinstance(answer, Refusal):
+        return refusal_line(answer)
+    return lines_of([b"tree %d neighbours %d" % item for item in enumerate(answer.counts)], answer.pairs)
+
+
+def refusal_line(refusal):
+    """The sheet of a refused text."""
+    return b"refused %d at %d\n" % (refusal.number, refusal.place)
 
 
 def sheet_of(table_, graph_):
-    """The sheet of an accepted table; every line ends in one LF."""
+    """The pair lister's sheet of an accepted table."""
     texts = table_.texts
     linked = set(graph_.pairs) | {(j, i) for i, j in graph_.pairs}
-    lines = [b"trees %d pairs %d" % (len(texts), len(graph_.pairs))]
+    tree_lines = []
     for i, (text, neighbours) in enumerate(zip(texts, graph_.counts)):
         # Equal canonical texts are equal topologies.
         unlinked = sum(other != text and (i, j) not in linked for j, other in enumerate(texts))
-        lines.append(b"tree %d neighbours %d unlinked %d %s" % (i, neighbours, unlinked, text))
-    for i, j in graph_.pairs:
-        lines.append(b"pair %d %d" % (i, j))
+        tree_lines.append(b"tree %d neighbours %d unlinked %d %s" % (i, neighbours, unlinked, text))
+    return lines_of(tree_lines, graph_.pairs)
+
+
+def lines_of(tree_lines, pairs):
+    """The numbers of trees and pairs, a line for each tree, a line for each
+    pair; every line ends in one LF."""
+    lines = [b"trees %d pairs %d" % (len(tree_lines), len(pairs))]
+    lines += tree_lines
+    lines += [b"pair %d %d" % pair_ for pair_ in pairs]
     return b"".join(line + b"\n" for line in lines)
 
 

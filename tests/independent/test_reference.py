@@ -14,7 +14,7 @@ import unittest
 
 import generate
 import reference
-from reference import cut, form, graph, pair, sheet, table
+from reference import cut, form, graph, interchange_sheet, interchanges, pair, sheet, table
 
 HERE = os.path.dirname(os.path.abspath(__file__))
 
@@ -46,17 +46,6 @@ def tree_of(text):
 def text_of(nested):
     """The text of a nested tuple, children as they stand."""
     return generate.plain([nested])
-
-
-def all_trees(labels):
-    """One nested tuple for each topology on these labels."""
-    if len(labels) == 1:
-        return [labels[0]]
-    return [
-        generate.replaced(tree, path, (generate.subtree(tree, path), labels[-1]))
-        for tree in all_trees(labels[:-1])
-        for path in generate.paths(tree)
-    ]
 
 
 def random_pairs(seed, count, sizes):
@@ -136,12 +125,14 @@ class Samples(unittest.TestCase):
         """The empty text is a table of no trees."""
         self.assertEqual(table(b""), ([], []))
         self.assertEqual(graph(b""), ([], []))
+        self.assertEqual(interchanges(b""), ([], []))
         self.assertEqual(sheet(b""), b"trees 0 pairs 0\n")
 
     def test_other_labels(self):
         """A later tree on other labels."""
         self.assertEqual(table(b"(1,2);(1,3);"), (5, 0, 11))
         self.assertEqual(graph(b"(1,2);(1,3);"), (5, 0, 11))
+        self.assertEqual(interchanges(b"(1,2);(1,3);"), (5, 0, 11))
 
     def test_cuts(self):
         """All cuts of the four-leaf sample, and none of a single leaf."""
@@ -178,6 +169,7 @@ class Samples(unittest.TestCase):
         self.assertEqual(len(table(b"(1,2);" * 160).texts), 160)
         self.assertEqual(table(b"(1,2);" * 161), (6, 0, 960))
         self.assertEqual(graph(b"(1,2);" * 161), (6, 0, 960))
+        self.assertEqual(interchanges(b"(1,2);" * 161), (6, 0, 960))
 
     def test_sheet(self):
         """The whole sample sheet."""
@@ -294,7 +286,52 @@ class Refusals(unittest.TestCase):
         """One line, no more."""
         self.assertEqual(sheet(b"(1,2,3);"), b"refused 1 at 4\n")
         self.assertEqual(sheet(b"x" * 65536), b"refused 8 at 0\n")
+        self.assertEqual(interchange_sheet(b"(1,2,3);"), b"refused 1 at 4\n")
+        self.assertEqual(interchange_sheet(b"x" * 65536), b"refused 8 at 0\n")
         self.assertEqual(sheet(b"1;"), b"trees 1 pairs 0\ntree 0 neighbours 0 unlinked 0 1;\n")
+
+
+class Interchanges(unittest.TestCase):
+    """Known cases of the interchange graph."""
+
+    def results(self, text):
+        """The canonical texts of all interchanges' results, in order."""
+        return sorted(map(reference.canonical_text, reference.interchanged(tree_of(text))))
+
+    def test_results(self):
+        """Every node but the root and its children moves above its aunt."""
+        self.assertEqual(self.results(b"1;"), [])
+        self.assertEqual(self.results(b"(1,2);"), [])
+        self.assertEqual(self.results(b"((10,2),9);"), [b"((2,9),10);", b"(2,(9,10));"])
+        self.assertEqual(self.results(b"((1,2),(3,4));"), [
+            b"(((1,2),3),4);", b"(((1,2),4),3);", b"((1,(3,4)),2);", b"(1,(2,(3,4)));",
+        ])
+        self.assertEqual(self.results(b"(((1,2),3),4);"), [
+            b"(((1,2),4),3);", b"(((1,3),2),4);", b"((1,(2,3)),4);", b"((1,2),(3,4));",
+        ])
+
+    def test_moves_that_are_no_interchange(self):
+        """Three trees one move from each other; one interchange joins two."""
+        text = b"(((1,2),3),4);((1,2),(3,4));(((1,4),2),3);"
+        self.assertEqual(graph(text).pairs, [(0, 1), (0, 2), (1, 2)])
+        self.assertEqual(interchanges(text), ([(0, 1)], [1, 1, 0]))
+
+    def test_copies(self):
+        """Copies are kept apart and are no pair of their own."""
+        self.assertEqual(interchanges(b"((1,2),3);(3,(2,1));"), ([], [0, 0]))
+        self.assertEqual(interchanges(SAMPLE_INPUT), graph(SAMPLE_INPUT))
+
+    def test_sheet(self):
+        """The lister's sheet without the unlinked numbers and the texts."""
+        self.assertEqual(interchange_sheet(b"((1,2),3);((1,3),2);((1,2),3);"), b"""\
+trees 3 pairs 2
+tree 0 neighbours 1
+tree 1 neighbours 2
+tree 2 neighbours 1
+pair 0 1
+pair 1 2
+""")
+        self.assertEqual(interchange_sheet(b""), b"trees 0 pairs 0\n")
 
 
 class AllSmallTrees(unittest.TestCase):
@@ -304,7 +341,7 @@ class AllSmallTrees(unittest.TestCase):
         """Trees of each size on scattered labels, as read from their texts."""
         labels = (10, 2, 64, 9, 33)
         self.by_size = {
-            size: [tree_of(text_of(nested)) for nested in all_trees(labels[:size])]
+            size: [tree_of(text_of(nested)) for nested in generate.all_trees(labels[:size])]
             for size in range(1, 6)
         }
 
@@ -332,6 +369,37 @@ class AllSmallTrees(unittest.TestCase):
                     if first.clades != second.clades:
                         shared = not own.isdisjoint(forests(second.clades))
                         self.assertEqual(second.clades in reached, shared)
+
+    def test_interchange_is_symmetric(self):
+        """An interchange from the first to the second goes back too."""
+        for trees in self.by_size.values():
+            reached = {tree.clades: reference.reached_by_interchange(tree) for tree in trees}
+            for first, second in itertools.combinations(reached, 2):
+                self.assertEqual(second in reached[first], first in reached[second])
+
+    def test_interchanges_are_moves(self):
+        """What an interchange makes, a move makes; it is never the tree."""
+        for trees in self.by_size.values():
+            for tree in trees:
+                reached = reference.reached_by_interchange(tree)
+                self.assertLessEqual(reached, reference.reached(tree))
+                self.assertNotIn(tree.clades, reached)
+
+    def test_number_of_interchanges(self):
+        """n leaves give 2(n - 2) interchanges, no two of them alike."""
+        for size, expected in zip(range(1, 6), (0, 0, 2, 4, 6)):
+            for tree in self.by_size[size]:
+                self.assertEqual(len(list(reference.interchanged(tree))), expected)
+                self.assertEqual(len(reference.reached_by_interchange(tree)), expected)
+
+    def test_interchange_changes_one_clade(self):
+        """One interchange apart exactly if all clades but one are shared."""
+        for trees in self.by_size.values():
+            for first in trees:
+                reached = reference.reached_by_interchange(first)
+                for second in trees:
+                    changed = len(first.clades - second.clades)
+                    self.assertEqual(second.clades in reached, changed == 1)
 
     def test_results_are_trees(self):
         """Every topology that a move gives is one of the possible ones."""
@@ -402,6 +470,14 @@ class RandomTrees(unittest.TestCase):
             literal = {tree_of(text_of(moved)).clades for moved in generate.all_moves(tree)}
             self.assertEqual(reference.reached(tree_of(text_of(tree))), literal)
 
+    def test_interchanges_by_paths(self):
+        """So do the interchanges made there, by one prune and regraft each."""
+        for tree, _ in random_pairs(19, 150, range(1, 20)):
+            literal = {tree_of(text_of(moved)).clades for moved in generate.all_interchanges(tree)}
+            held = tree_of(text_of(tree))
+            self.assertEqual(reference.reached_by_interchange(held), literal)
+            self.assertEqual(len(literal), max(0, 2 * len(held.clade) - 4))
+
     def test_canonical_text_is_idempotent(self):
         """A canonical text is its own canonical text, for any layout."""
         rng = random.Random(16)
@@ -441,6 +517,28 @@ class RandomTrees(unittest.TestCase):
                 self.assertEqual(count, sum(i in one_pair for one_pair in pairs))
 
 
+    def test_interchange_tables(self):
+        """Pairs are those of each two trees, in either order, and some of the
+        graph's; counts are taken from them."""
+        rng = random.Random(20)
+        fewer = 0
+        for _ in range(60):
+            text = generate.written(rng, rng.choice((generate.usual_table, generate.interchange_table))(rng))
+            texts, _ = table(text)
+            pairs, counts = interchanges(text)
+            for i, j in itertools.combinations(range(len(texts)), 2):
+                expected = [(0, 1)] if (i, j) in pairs else []
+                self.assertEqual(interchanges(texts[i] + texts[j]).pairs, expected)
+                self.assertEqual(interchanges(texts[j] + texts[i]).pairs, expected)
+            self.assertEqual(pairs, sorted(set(pairs)))
+            by_moves = graph(text).pairs
+            self.assertLessEqual(set(pairs), set(by_moves))
+            fewer += 0 < len(pairs) < len(by_moves)
+            for i, count in enumerate(counts):
+                self.assertEqual(count, sum(i in one_pair for one_pair in pairs))
+        self.assertGreater(fewer, 10)
+
+
 class Generator(unittest.TestCase):
     """The cases themselves, and the command."""
 
@@ -457,6 +555,7 @@ class Generator(unittest.TestCase):
             "damaged-label": b"refused 2 ", "repeated-label": b"refused 3 ", "too-deep": b"refused 4 ",
             "other-labels": b"refused 5 ", "too-many": b"refused 6 ", "deep-comb": b"trees ",
             "random-table": b"trees ", "chain": b"trees ", "copies": b"trees ", "crowd": b"trees ",
+            "interchanges": b"trees ",
         }
         refused = set()
         for position, kind, text in generate.cases(5, 800):

@@ -3,7 +3,9 @@
 //!
 //! The method is document 001's: every forest of every tree is written as a
 //! canonical string, the strings are the keys of a hash map, and two trees of
-//! different topology that meet under one key are a pair.
+//! different topology that meet under one key are a pair. For interchanges the
+//! canonical texts of all trees one interchange away are looked up among those
+//! of the table.
 //!
 //! Results are returned, not written into lent memory, so refusal 7 (a lent
 //! slice too short) does not arise.
@@ -116,7 +118,32 @@ pub fn table(text: &[u8]) -> Result<(Vec<u8>, Vec<u32>), Refusal> {
 
 /// The listed pairs of a table and the neighbour count of each tree.
 pub fn graph(text: &[u8]) -> Result<Graph, Refusal> {
-    Ok(graph_of(&read_table(text)?))
+    Ok(graph_of(&read_table(text)?, sharing_a_forest))
+}
+
+/// The same for one interchange in place of one move.
+pub fn interchanges(text: &[u8]) -> Result<Graph, Refusal> {
+    Ok(graph_of(&read_table(text)?, one_interchange_apart))
+}
+
+/// The interchange graph of a table as text: the numbers of trees and pairs, a
+/// line for each tree, a line for each pair.
+pub fn interchange_sheet(text: &[u8]) -> Vec<u8> {
+    let mut out = Vec::new();
+    write_interchange_sheet(text, &mut out).expect("writing to a vector does not fail");
+    out
+}
+
+fn write_interchange_sheet(text: &[u8], out: &mut Vec<u8>) -> std::io::Result<()> {
+    let (pairs, counts) = match interchanges(text) {
+        Ok(graph) => graph,
+        Err(refusal) => return write_refusal(refusal, out),
+    };
+    writeln!(out, "trees {} pairs {}", counts.len(), pairs.len())?;
+    for (i, neighbours) in counts.iter().enumerate() {
+        writeln!(out, "tree {i} neighbours {neighbours}")?;
+    }
+    write_pairs(&pairs, out)
 }
 
 /// What the pair lister prints for this standard input.
@@ -129,11 +156,9 @@ pub fn sheet(text: &[u8]) -> Vec<u8> {
 fn write_sheet(text: &[u8], out: &mut Vec<u8>) -> std::io::Result<()> {
     let trees = match read_table(text) {
         Ok(trees) => trees,
-        Err(refusal) => {
-            return writeln!(out, "refused {} at {}", refusal.number, refusal.place);
-        }
+        Err(refusal) => return write_refusal(refusal, out),
     };
-    let (pairs, counts) = graph_of(&trees);
+    let (pairs, counts) = graph_of(&trees, sharing_a_forest);
     writeln!(out, "trees {} pairs {}", trees.len(), pairs.len())?;
     let mut copies: HashMap<&[u8], usize> = HashMap::new();
     for tree in &trees {
@@ -145,10 +170,18 @@ fn write_sheet(text: &[u8], out: &mut Vec<u8>) -> std::io::Result<()> {
         out.extend_from_slice(tree.canonical_text());
         out.push(b'\n');
     }
-    for (i, j) in &pairs {
+    write_pairs(&pairs, out)
+}
+
+fn write_pairs(pairs: &[(u16, u16)], out: &mut Vec<u8>) -> std::io::Result<()> {
+    for (i, j) in pairs {
         writeln!(out, "pair {i} {j}")?;
     }
     Ok(())
+}
+
+fn write_refusal(refusal: Refusal, out: &mut Vec<u8>) -> std::io::Result<()> {
+    writeln!(out, "refused {} at {}", refusal.number, refusal.place)
 }
 
 fn refuse_long_text(text: &[u8], which: u8) -> Result<(), Refusal> {
@@ -196,7 +229,10 @@ fn read_table(text: &[u8]) -> Result<Vec<Tree>, Refusal> {
     Ok(trees)
 }
 
-fn graph_of(trees: &[Tree]) -> Graph {
+/// For trees of different topologies: which of them are neighbours.
+type Adjacency = Vec<Vec<bool>>;
+
+fn graph_of(trees: &[Tree], adjacency: fn(&[&Tree]) -> Adjacency) -> Graph {
     // As in document 001 a topology is inserted once, however often it occurs.
     let mut number_of: HashMap<&[u8], usize> = HashMap::new();
     let mut distinct: Vec<&Tree> = Vec::new();
@@ -226,11 +262,11 @@ fn graph_of(trees: &[Tree]) -> Graph {
     (pairs, counts)
 }
 
-/// For trees of different topologies: which of them share a forest.
+/// Neighbours by one move.
 ///
 /// Trees that share several forests meet several times; in the matrix that is
 /// still one entry.
-fn adjacency(trees: &[&Tree]) -> Vec<Vec<bool>> {
+fn sharing_a_forest(trees: &[&Tree]) -> Adjacency {
     let forests = trees.iter().map(|tree| tree.number_of_cuts()).sum();
     let mut holders: HashMap<Vec<u8>, Vec<usize>> = HashMap::with_capacity(forests);
     let mut adjacent = vec![vec![false; trees.len()]; trees.len()];
@@ -242,6 +278,24 @@ fn adjacency(trees: &[&Tree]) -> Vec<Vec<bool>> {
                 adjacent[j][i] = true;
             }
             sharing.push(i);
+        }
+    }
+    adjacent
+}
+
+/// Neighbours by one interchange, which never gives the same topology again.
+fn one_interchange_apart(trees: &[&Tree]) -> Adjacency {
+    let number_of: HashMap<&[u8], usize> = trees
+        .iter()
+        .enumerate()
+        .map(|(number, tree)| (tree.canonical_text(), number))
+        .collect();
+    let mut adjacent = vec![vec![false; trees.len()]; trees.len()];
+    for (tree, neighbours) in trees.iter().zip(&mut adjacent) {
+        for text in tree.interchanged_texts() {
+            if let Some(&number) = number_of.get(text.as_slice()) {
+                neighbours[number] = true;
+            }
         }
     }
     adjacent

@@ -1,13 +1,19 @@
-//! Reads a table of trees from standard input and prints the sheet.
+//! Reads a table of trees from standard input and prints the sheet; with
+//! `--interchanges`, the graph of interchanges.
 
 use std::io::{self, Read, Write};
 
 fn main() -> io::Result<()> {
+    let printed = match std::env::args().nth(1).as_deref() {
+        None => plain::sheet,
+        Some("--interchanges") => plain::interchange_sheet,
+        Some(other) => panic!("not an option: {other}"),
+    };
     // One byte above the limit is enough for the refusal.
     let mut text = Vec::new();
     io::stdin()
         .lock()
         .take(plain::MOST_BYTES as u64 + 1)
         .read_to_end(&mut text)?;
-    io::stdout().lock().write_all(&plain::sheet(&text))
+    io::stdout().lock().write_all(&printed(&text))
 }

@@ -1,4 +1,4 @@
-//! The samples of document 01.
+//! The samples of document 01, and interchanges.
 
 use super::*;
 
@@ -45,6 +45,7 @@ fn empty_text() {
     assert_eq!(form(b""), refused(1, 0));
     assert_eq!(table(b""), Ok((vec![], vec![])));
     assert_eq!(graph(b""), Ok((vec![], vec![])));
+    assert_eq!(interchanges(b""), Ok((vec![], vec![])));
     assert_eq!(sheet(b""), b"trees 0 pairs 0\n");
 }
 
@@ -155,15 +156,18 @@ fn number_of_trees() {
     let full = "(1,2);".repeat(160);
     assert_eq!(table(full.as_bytes()).unwrap().1.len(), 160);
     assert_eq!(table(format!("{full} \n").as_bytes()).unwrap().1.len(), 160);
-    assert_eq!(table(format!("{full}(1,2);").as_bytes()), refused(6, 960));
     assert_eq!(table(format!("{full} x").as_bytes()), refused(6, 961));
-    assert_eq!(graph(format!("{full}(1,2);").as_bytes()), refused(6, 960));
+    let one_more = format!("{full}(1,2);");
+    assert_eq!(table(one_more.as_bytes()), refused(6, 960));
+    assert_eq!(graph(one_more.as_bytes()), refused(6, 960));
+    assert_eq!(interchanges(one_more.as_bytes()), refused(6, 960));
 }
 
 #[test]
 fn length_of_the_text() {
     assert_eq!(table(&vec![b' '; 65_535]), Ok((vec![], vec![])));
     assert_eq!(table(&vec![b'x'; 65_536]), refused(8, 0));
+    assert_eq!(interchanges(&vec![b'x'; 65_536]), refused(8, 0));
     assert_eq!(sheet(&vec![b'x'; 65_536]), b"refused 8 at 0\n");
 }
 
@@ -184,4 +188,80 @@ pair 2 3
 ";
     assert_eq!(String::from_utf8(sheet(input)).unwrap(), expected);
     assert_eq!(sheet(b"(1,2,3);"), b"refused 1 at 4\n");
+}
+
+/// The canonical texts one interchange away from a tree.
+fn interchanged(tree: &str) -> Vec<String> {
+    let (tree, _) = read_one(tree.as_bytes(), 0).unwrap();
+    tree.interchanged_texts()
+        .map(|text| String::from_utf8(text).unwrap())
+        .collect()
+}
+
+#[test]
+fn nodes_regrafted_above_their_aunts() {
+    assert!(interchanged("1;").is_empty());
+    assert!(interchanged("(1,2);").is_empty());
+    assert_eq!(interchanged("((10,2),9);"), ["((2,9),10);", "(2,(9,10));"]);
+    assert_eq!(
+        interchanged("((1,2),(3,4));"),
+        [
+            "((1,(3,4)),2);",
+            "(1,(2,(3,4)));",
+            "(((1,2),3),4);",
+            "(((1,2),4),3);",
+        ]
+    );
+    assert_eq!(
+        interchanged("(((1,2),3),4);"),
+        [
+            "(((1,2),4),3);",
+            "(((1,3),2),4);",
+            "((1,(2,3)),4);",
+            "((1,2),(3,4));",
+        ]
+    );
+}
+
+/// All trees of up to six leaves, by interchanges from one to the next.
+#[test]
+fn trees_joined_by_interchanges() {
+    for (leaves, topologies) in [(1, 1), (2, 1), (3, 3), (4, 15), (5, 105), (6, 945)] {
+        let mut trees = vec![left_comb(leaves)];
+        let mut met: HashSet<String> = trees.iter().cloned().collect();
+        let mut next = 0;
+        while next < trees.len() {
+            let tree = trees[next].clone();
+            let others: HashSet<String> = interchanged(&tree).into_iter().collect();
+            assert_eq!(others.len(), 2 * leaves.saturating_sub(2));
+            for other in others {
+                assert_eq!(form(other.as_bytes()), text(&other));
+                assert_eq!(pair(tree.as_bytes(), other.as_bytes()), Ok(true));
+                assert!(interchanged(&other).contains(&tree));
+                if met.insert(other.clone()) {
+                    trees.push(other);
+                }
+            }
+            next += 1;
+        }
+        assert_eq!(trees.len(), topologies);
+    }
+}
+
+#[test]
+fn interchange_graphs() {
+    // All three pairs are one move apart.
+    assert_eq!(
+        interchanges(b"(((1,2),3),4);((1,2),(3,4));(((1,4),2),3);"),
+        Ok((vec![(0, 1)], vec![1, 1, 0]))
+    );
+    // Copies are kept apart, and are no pair.
+    assert_eq!(
+        interchanges(b"((2,1),3);(3,(2,1));(1,(2,3));((1,3),2);"),
+        Ok((
+            vec![(0, 2), (0, 3), (1, 2), (1, 3), (2, 3)],
+            vec![2, 2, 3, 3]
+        ))
+    );
+    assert_eq!(interchanges(b"(1,2);(1,3);"), refused(5, 11));
 }

@@ -1,4 +1,4 @@
-//! Trees, their canonical texts and their forests.
+//! Trees, their canonical texts, their forests and their interchanges.
 
 use std::ops::Range;
 
@@ -154,7 +154,40 @@ impl Tree {
         out
     }
 
+    /// The canonical texts of all trees that one interchange makes.
+    pub fn interchanged_texts(&self) -> impl Iterator<Item = Vec<u8>> + '_ {
+        (0..self.nodes.len()).filter_map(|node| self.interchanged_text(node))
+    }
+
+    /// The canonical text after a node is regrafted above its aunt. The root
+    /// and its children have none.
+    ///
+    /// The sibling moves up to the place of the parent, next to a new fork of
+    /// the aunt and the node. The grandparent keeps its labels, so that the
+    /// text around it stays.
+    fn interchanged_text(&self, node: usize) -> Option<Vec<u8>> {
+        let (parent, sibling) = self.nodes[node].above?;
+        let (grandparent, aunt) = self.nodes[parent].above?;
+        let new_fork = fork_text(self.least_and_text(aunt), self.least_and_text(node));
+        let new_least = self.nodes[aunt].least.min(self.nodes[node].least);
+        let changed = fork_text(self.least_and_text(sibling), (new_least, &new_fork));
+        let place = &self.nodes[grandparent].text;
+        Some([&self.text[..place.start], &changed, &self.text[place.end..]].concat())
+    }
+
+    fn least_and_text(&self, node: usize) -> (u8, &[u8]) {
+        (self.nodes[node].least, self.node_text(node))
+    }
+
     fn node_text(&self, node: usize) -> &[u8] {
         &self.text[self.nodes[node].text.clone()]
     }
+}
+
+/// The canonical text of a fork of two nodes, from the smallest label and the
+/// canonical text of each.
+fn fork_text(one: (u8, &[u8]), other: (u8, &[u8])) -> Vec<u8> {
+    // Smallest labels differ, so the texts are not compared.
+    let (first, second) = (one.min(other).1, one.max(other).1);
+    [&b"("[..], first, b",", second, b")"].concat()
 }

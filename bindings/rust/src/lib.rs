@@ -11,6 +11,8 @@
 //! let graph = norbelath::graph(b"((1,2),3); (1,(2,3)); ((1,2),3);").unwrap();
 //! assert_eq!(graph.pairs, [(0, 1), (1, 2)]);
 //! assert_eq!(graph.counts, [1, 2, 1]);
+//! let graph = norbelath::interchanges(b"(((1,2),3),4); ((1,2),(3,4)); (((1,4),2),3);").unwrap();
+//! assert_eq!(graph.pairs, [(0, 1)]);
 //! let table = norbelath::table(b"(2,1); (1,2);").unwrap();
 //! assert_eq!(table.trees().collect::<Vec<_>>(), [b"(1,2);", b"(1,2);"]);
 //! assert_eq!(norbelath::sheet(b"(1,2);"), b"trees 1 pairs 0\ntree 0 neighbours 0 unlinked 0 (1,2);\n");
@@ -35,9 +37,9 @@ pub const CUT_OUT: usize = 307;
 pub const TABLE_TEXTS: usize = 49_440;
 /// The least length of the slice lent to [`table_into`] for the ends.
 pub const TABLE_ENDS: usize = 160;
-/// The least length of the slice lent to [`graph_into`] for the pairs, two numbers each.
+/// The least length of the slice lent to [`graph_into`] or [`interchanges_into`] for the pairs, two numbers each.
 pub const GRAPH_PAIRS: usize = 25_440;
-/// The least length of the slice lent to [`graph_into`] for the counts.
+/// The least length of the slice lent to [`graph_into`] or [`interchanges_into`] for the counts.
 pub const GRAPH_COUNTS: usize = 160;
 /// The least length of the slice lent to [`sheet_into`].
 pub const SHEET_OUT: usize = 220_902;
@@ -90,6 +92,16 @@ extern "C" {
         first: *mut u64,
         second: *mut u64,
     ) -> u8;
+    fn norbelath_interchanges(
+        text: *const u8,
+        text_len: usize,
+        pairs: *mut u16,
+        pairs_len: usize,
+        counts: *mut u16,
+        counts_len: usize,
+        first: *mut u64,
+        second: *mut u64,
+    ) -> u8;
     fn norbelath_sheet(
         text: *const u8,
         text_len: usize,
@@ -99,6 +111,18 @@ extern "C" {
         second: *mut u64,
     ) -> u8;
 }
+
+/// A call of the library that lists pairs: the graph call or the interchange call.
+type Lister = unsafe extern "C" fn(
+    text: *const u8,
+    text_len: usize,
+    pairs: *mut u16,
+    pairs_len: usize,
+    counts: *mut u16,
+    counts_len: usize,
+    first: *mut u64,
+    second: *mut u64,
+) -> u8;
 
 /// Why a call refuses. No lent slice is changed then.
 #[derive(Clone, Copy, Debug, PartialEq, Eq, Hash)]
@@ -163,7 +187,7 @@ pub struct TableSize {
     pub trees: usize,
 }
 
-/// How much [`graph_into`] wrote: a count for each tree, and two numbers for each pair.
+/// How much [`graph_into`] or [`interchanges_into`] wrote: a count for each tree, and two numbers for each pair.
 #[derive(Clone, Copy, Debug, PartialEq, Eq)]
 pub struct GraphSize {
     pub trees: usize,
@@ -190,7 +214,7 @@ impl Table {
 }
 
 /// What [`graph`] gives: the pairs of positions i < j that are one move apart, in order of i and then j, and for each
-/// position the number of pairs it is in.
+/// position the number of pairs it is in. [`interchanges`] gives the same for one interchange.
 #[derive(Clone, Debug, PartialEq, Eq)]
 pub struct Graph {
     pub pairs: Vec<(u16, u16)>,
@@ -285,8 +309,27 @@ pub fn graph_into(
     pairs: &mut [u16],
     counts: &mut [u16],
 ) -> Result<GraphSize, Refusal> {
+    list_into(norbelath_graph, text, pairs, counts)
+}
+
+/// Writes the pairs of a text's trees that are one nearest-neighbour interchange apart, and each tree's number of
+/// pairs, as [`graph_into`] does for one move.
+pub fn interchanges_into(
+    text: &[u8],
+    pairs: &mut [u16],
+    counts: &mut [u16],
+) -> Result<GraphSize, Refusal> {
+    list_into(norbelath_interchanges, text, pairs, counts)
+}
+
+fn list_into(
+    lister: Lister,
+    text: &[u8],
+    pairs: &mut [u16],
+    counts: &mut [u16],
+) -> Result<GraphSize, Refusal> {
     let (trees, pairs) = answer(|first, second| unsafe {
-        norbelath_graph(
+        lister(
             text.as_ptr(),
             text.len(),
             pairs.as_mut_ptr(),
@@ -345,9 +388,21 @@ pub fn table(text: &[u8]) -> Result<Table, Refusal> {
 
 /// The pairs of a text's trees that are one move apart, and each tree's number of pairs.
 pub fn graph(text: &[u8]) -> Result<Graph, Refusal> {
+    list(norbelath_graph, text)
+}
+
+/// The pairs of a text's trees that are one nearest-neighbour interchange apart, and each tree's number of pairs.
+///
+/// An interchange takes a node that is neither the root nor a child of the root and regrafts it on the edge above its
+/// aunt, the sibling of its parent.
+pub fn interchanges(text: &[u8]) -> Result<Graph, Refusal> {
+    list(norbelath_interchanges, text)
+}
+
+fn list(lister: Lister, text: &[u8]) -> Result<Graph, Refusal> {
     let mut pairs = vec![0; GRAPH_PAIRS];
     let mut counts = vec![0; GRAPH_COUNTS];
-    let size = graph_into(text, &mut pairs, &mut counts)?;
+    let size = list_into(lister, text, &mut pairs, &mut counts)?;
     pairs.truncate(2 * size.pairs);
     counts.truncate(size.trees);
     let pairs = pairs

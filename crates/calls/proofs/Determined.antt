@@ -3,8 +3,9 @@
 use mathlib.Core.Path.{_≡_, refl, sym, ap, ap₂, _∙_}
 use mathlib.Core.List.{List}
 use Prim.Native.Nat.{ℕ}
+use Rattle.meaning.specs.Tree.{Tree}
 use Rattle.meaning.specs.Answer.{Answer, Outcome, TableSize, TableMemory, GraphSize, GraphMemory}
-use Rattle.meaning.specs.Calls.{formCall, cutCall, PairCall, tableCall, GraphCall}
+use Rattle.meaning.specs.Calls.{formCall, cutCall, PairCall, tableCall, GraphBy}
 use Rattle.meaning.specs.Sheet.{SheetCall}
 use Rattle.meaning.proofs.Determined.{pair-determined, graph-determined, sheet-call-determined as sheet-determined}
 use Rattle.meaning.proofs.Logic.{clash}
@@ -80,7 +81,7 @@ pair-one (pair.Refused x) (pair.Refused y) e = ap pair.Refused (refusal-one e)
 pub pair-call-determined : {s s′ : List ℕ} (r r′ : PairAnswer) → PairCall s s′ (pairAnswer r) → PairCall s s′ (pairAnswer r′) → r ≡ r′
 pair-call-determined r r′ h k = pair-one r r′ (pair-determined h k)
 
--- the graph call
+-- the graph call and the interchange call
 pub graph-one : (r r′ : GraphAnswer) → graphAnswer r ≡ graphAnswer r′ → r ≡ r′
 graph-one (graph.Listed k n) (graph.Listed j m) e =
     let x : _≡_ {A = GraphSize} (record { trees = k; pairs = n }) (record { trees = j; pairs = m }) = cc in
@@ -89,7 +90,8 @@ graph-one (graph.Listed k n) (graph.Refused y) e = clash cc
 graph-one (graph.Refused x) (graph.Listed j m) e = clash cc
 graph-one (graph.Refused x) (graph.Refused y) e = ap graph.Refused (refusal-one e)
 
-pub graph-call-determined : (s : List ℕ) (memory : GraphMemory) (r r′ : GraphAnswer) {pairs pairs′ counts counts′ : List ℕ} → GraphCall s memory (graphOutcome r pairs counts) → GraphCall s memory (graphOutcome r′ pairs′ counts′) → (r ≡ r′) × (pairs ≡ pairs′) × (counts ≡ counts′)
+pub graph-call-determined : {R : Tree → Tree → Type 0} (s : List ℕ) (memory : GraphMemory) (r r′ : GraphAnswer) {pairs pairs′ counts counts′ : List ℕ}
+    → GraphBy R s memory (graphOutcome r pairs counts) → GraphBy R s memory (graphOutcome r′ pairs′ counts′) → (r ≡ r′) × (pairs ≡ pairs′) × (counts ≡ counts′)
 graph-call-determined s memory r r′ e f =
     let h = graph-determined e f in (
       graph-one r r′ (ap (λ (x : Outcome GraphSize GraphMemory). x .answer) h),

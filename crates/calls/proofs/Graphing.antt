@@ -1,13 +1,14 @@
--- The ways through the graph call.
+-- The ways through the graph call and the interchange call.
 -- Assumes nothing.
 use mathlib.Core.Path.{_≡_, subst, _∙_}
 use mathlib.Core.List.{List}
 use Prim.Native.Nat.{ℕ}
 use native.Mathlib.Omega.{arith}
 use lib.ListN.{length}
+use Rattle.meaning.specs.Tree.{Tree}
 use Rattle.meaning.specs.Listing.{counts, flat}
-use Rattle.meaning.specs.Answer.{accepted, Outcome, GraphSize, GraphMemory, written}
-use Rattle.meaning.specs.Calls.{tableRead, graphSlices, graphRead, GraphCall, GraphBy, lists}
+use Rattle.meaning.specs.Answer.{accepted, GraphMemory, written}
+use Rattle.meaning.specs.Calls.{tableRead, graphSlices, graphRead, GraphBy, lists}
 use Rattle.meaning.proofs.Counts.{counts-length, flat-few}
 use Rattle.meaning.proofs.Lent.{lent-ample}
 use Rattle.lent.proofs.Runs.{sets-start}
@@ -15,6 +16,8 @@ use Rattle.held.specs.Kept.{KeepsAll}
 use Rattle.reading.specs.declared.Refusal.{Refusal}
 use Rattle.reading.specs.declared.Step.the-variants.{Next, Refused as StepRefused}
 use Rattle.reading.specs.declared.tables.TableRead.{TableRead}
+use Rattle.pairs.specs.Link.{Linked}
+use Rattle.pairs.specs.declared.Link.{Link}
 use Rattle.graph.specs.Graph.{GraphRoom, GraphWritten}
 use Rattle.calls.specs.Lent.{TableLent}
 use Rattle.calls.specs.Paper.{graphOutcome}
@@ -22,7 +25,7 @@ use Rattle.calls.specs.declared.GraphAnswer.the-variants.{Listed, Refuse
 use Rattle.calls.proofs.Lent.{Given, lent-next, lent-refused}
 
 module _ (s : List ℕ) (memory : GraphMemory) {r : TableRead} (m : TableLent r (graphRead s memory)) where
-  pub graph-refused : {x : Refusal} → r .step ≡ StepRefused x → GraphCall s memory (graphOutcome (Refused x) (memory .pairs) (memory .counts))
+  pub graph-refused : {R : Tree → Tree → Type 0} {x : Refusal} → r .step ≡ StepRefused x → GraphBy R s memory (graphOutcome (Refused x) (memory .pairs) (memory .counts))
   graph-refused {x} e = GraphBy.refuses (x .number) (x .text) (x .place) (lent-refused m e)
 
   module _ {p k : ℕ} (e : r .step ≡ Next p k) where
@@ -34,8 +37,9 @@ module _ (s : List ℕ) (memory : GraphMemory) {r : TableRead} (m : TableLent r 
         let room = lent-ample (graphSlices memory) (tableRead s) (read .is) in
         record { kept = record { trees = read .value; keeps = read .keeps }; room = record { pairs-room = room .0; counts-room = room .1 } }
 
-    pub graph-listed : {memory′ : GraphMemory} {n : ℕ} → GraphWritten (r .table) memory memory′ n → GraphCall s memory (graphOutcome (Listed k n) (memory′ .pairs) (memory′ .counts))
-    graph-listed {memory′} {n} w =
+    pub graph-listed : (by : Link) {memory′ : GraphMemory} {n : ℕ} → GraphWritten by (r .table) memory memory′ n
+        → GraphBy (Linked by) s memory (graphOutcome (Listed k n) (memory′ .pairs) (memory′ .counts))
+    graph-listed by {memory′} {n} w =
         let ts = read .value in
         let g = w ts (read .keeps) in
         let ps = g .linked in
@@ -44,7 +48,7 @@ module _ (s : List ℕ) (memory : GraphMemory) {r : TableRead} (m : TableLent r 
         g .in-pairs .cells ∙ sets-start (memory .pairs) (flat ps) (omega (arith, flat-few (g .listing) (read .keeps .few), room .pairs-room)) in
         let c : memory′ .counts ≡ written (counts (length ts) ps) (memory .counts) =
         g .in-counts .cells ∙ sets-start (memory .counts) (counts (length ts) ps) (omega (arith, counts-length (length ts) ps, read .keeps .few, room .counts-room)) in
-        subst (λ (o : Outcome GraphSize GraphMemory). GraphCall s memory o)
+        subst (GraphBy (Linked by) s memory)
         (same k (length ts) n (length ps) (memory′ .pairs) (written (flat ps) (memory .pairs)) (memory′ .counts) (written (counts (length ts) ps) (memory .counts)) (read .count) (g .many) b c)
         (lists ts ps (read .is) (g .listing))
       where

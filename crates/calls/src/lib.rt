@@ -1,6 +1,7 @@
 // The public calls. None asks anything of its caller: what cannot be answered is refused, and a refusal changes no lent cell.
 use held::Table;
 use held::Tree;
+use pairs::Link;
 use reading::Refusal;
 use reading::Step;
 use reading::TableRead;
@@ -13,10 +14,11 @@ ghost use lib.Dec.{leb};
 ghost use lib.ListN.{length};
 ghost use Rattle.meaning.specs.Tree.{Tree as Topology};
 ghost use Rattle.meaning.specs.Reading.{got, readTree};
-ghost use Rattle.meaning.specs.Calls.{lent, limited, answered, formCall, cutCall, beside, PairCall, tableRead, tableCall, GraphCall};
+ghost use Rattle.meaning.specs.Calls.{lent, limited, answered, formCall, cutCall, beside, PairCall, tableRead, tableCall, GraphBy, GraphCall, InterchangeCall};
 ghost use Rattle.meaning.specs.Sheet.{SheetCall};
 ghost use Rattle.held.specs.Held.{nodes};
 ghost use Rattle.held.specs.Kept.{Keeps, Kept};
+ghost use Rattle.pairs.specs.Link.{Linked};
 ghost use Rattle.graph.specs.Graph.{slices};
 ghost use Rattle.calls.specs.Paper.{textOutcome, pairAnswer, tableOutcome, graphOutcome};
 ghost use Rattle.calls.specs.Lent.{withheld, TreeLent, TableLent, CutRoom, cutText};
@@ -235,10 +237,10 @@ pub enum GraphAnswer {
     Refused(Refusal),
 }
 
-// Graph call: the pairs of trees of s that are one move apart, i and then j of each, and the neighbour count of each tree.
-pub fn graph_call(s: &[u8], pairs: &mut [u16], counts: &mut [u16]) -> GraphAnswer
+// The pairs of trees of s that are so linked, i and then j of each, and the neighbour count of each tree.
+fn list_linked(s: &[u8], pairs: &mut [u16], counts: &mut [u16], by: Link) -> GraphAnswer
     ensures { λ r. ⌜
-        GraphCall (now (s .entry)) (slices (now (pairs .entry)) (now (counts .entry)))
+        GraphBy (Linked by) (now (s .entry)) (slices (now (pairs .entry)) (now (counts .entry)))
         (graphOutcome r (now (pairs .exit)) (now (counts .exit))) ⌝ }
 {
     let counts_fit = enough(Table::MAX_TREES, counts.len(), true);
@@ -248,9 +250,27 @@ pub fn graph_call(s: &[u8], pairs: &mut [u16], counts: &mut [u16]) -> GraphAnswe
         Step::Refused(x) => GraphAnswer::Refused(x),
         Step::Next(_, count) => GraphAnswer::Listed(
             count,
-            graph::list_pairs(pairs, counts, read.table),
+            graph::list_pairs(pairs, counts, read.table, by),
         ),
     }
+}
+
+// Graph call: the pairs that are one move apart.
+pub fn graph_call(s: &[u8], pairs: &mut [u16], counts: &mut [u16]) -> GraphAnswer
+    ensures { λ r. ⌜
+        GraphCall (now (s .entry)) (slices (now (pairs .entry)) (now (counts .entry)))
+        (graphOutcome r (now (pairs .exit)) (now (counts .exit))) ⌝ }
+{
+    list_linked(s, pairs, counts, Link::Move)
+}
+
+// Interchange call: the pairs that are one interchange apart.
+pub fn interchange_call(s: &[u8], pairs: &mut [u16], counts: &mut [u16]) -> GraphAnswer
+    ensures { λ r. ⌜
+        InterchangeCall (now (s .entry)) (slices (now (pairs .entry)) (now (counts .entry)))
+        (graphOutcome r (now (pairs .exit)) (now (counts .exit))) ⌝ }
+{
+    list_linked(s, pairs, counts, Link::Interchange)
 }
 
 // Sheet call: what the pair lister prints for s, from the start of out on; a text that is refused has its line printed.

@@ -10,12 +10,13 @@ use lib.ListN.{length, getD, set}
 use Rattle.meaning.specs.Limits.{maxTrees, pairNumbers}
 use Rattle.meaning.specs.Lists.{more}
 use Rattle.meaning.specs.Tree.{Tree as Topology}
-use Rattle.meaning.specs.Move.{Apart}
 use Rattle.meaning.specs.Listing.{Pair, Listing, At, counts, flat}
 use Rattle.meaning.specs.Answer.{GraphMemory}
 use Rattle.lent.specs.Runs.{Wrote}
 use Rattle.held.specs.Kept.{KeepsAll, KeptAll}
 use Rattle.held.specs.declared.Table.{Table}
+use Rattle.pairs.specs.Link.{Linked}
+use Rattle.pairs.specs.declared.Link.{Link}
 
 -- ---- links
 -- a byte for each two positions of a table
@@ -90,9 +91,9 @@ pub record Graph (k : ℕ) (L : ℕ → ℕ → Type 0) (memory memory′ : Grap
 abbrev pub OfTrees : Table → (List Topology → Type 0) → Type 0
 OfTrees table P = (ts : List Topology) → KeepsAll table ts → P ts
 
--- the bytes show which trees are one move apart
-abbrev pub MovesLinked : Table → List ℕ → Type 0
-MovesLinked table links = OfTrees table (λ ts. Shows links (length ts) (At Apart ts))
+-- the bytes show which trees are so linked
+abbrev pub TreesLinked : Link → Table → List ℕ → Type 0
+TreesLinked by table links = OfTrees table (λ ts. Shows links (length ts) (At (Linked by) ts))
 
 -- the table keeps some trees, and there is room for the pairs and the counts of as many as a table can have
 pub record GraphRoom (table : Table) (memory : GraphMemory) : Type 0 where
@@ -100,5 +101,5 @@ pub record GraphRoom (table : Table) (memory : GraphMemory) : Type 0 where
   pub room : ListRoom memory
 
 -- the graph of the trees was written
-abbrev pub GraphWritten : Table → GraphMemory → GraphMemory → ℕ → Type 0
-GraphWritten table memory memory′ r = OfTrees table (λ ts. Graph (length ts) (At Apart ts) memory memory′ r)
+abbrev pub GraphWritten : Link → Table → GraphMemory → GraphMemory → ℕ → Type 0
+GraphWritten by table memory memory′ r = OfTrees table (λ ts. Graph (length ts) (At (Linked by) ts) memory memory′ r)

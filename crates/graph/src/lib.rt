@@ -1,12 +1,13 @@
 // The graph of a table: which of its positions are linked, and listing and counting the linked positions.
 use held::Table;
+use pairs::Link;
 ghost use mathlib.Core.Path.{_≡_};
 ghost use Prim.Native.Nat.{_≤_, _<_};
 ghost use lib.ListN.{length};
 ghost use Rattle.meaning.specs.Limits.{maxTrees};
 ghost use Rattle.meaning.specs.Loops.{row};
 ghost use Rattle.held.specs.Kept.{KeptAll};
-ghost use Rattle.graph.specs.Graph.{linkBytes, LinkedIn, linked?, slices, PairRoom, PairAdded, PairsRoom, Listed, ListRoom, Graph, MovesLinked, GraphRoom, GraphWritten};
+ghost use Rattle.graph.specs.Graph.{linkBytes, LinkedIn, linked?, slices, PairRoom, PairAdded, PairsRoom, Listed, ListRoom, Graph, TreesLinked, GraphRoom, GraphWritten};
 
 // A byte for each two positions, that of row i and column j at i * MAX_TREES + j: 1 where i and j are linked.
 pub struct Links {}
@@ -73,28 +74,28 @@ pub fn list_links(
     m
 }
 
-// Links the positions of the table's trees that are one move apart.
-fn link_moves(links: &mut [u8; Links::SIZE], table: Table)
+// Links the positions of the table's trees that are one move, or one interchange, apart.
+fn link_trees(links: &mut [u8; Links::SIZE], table: Table, by: Link)
     requires { ⌜ KeptAll table × (length (now links) ≡ linkBytes) ⌝ }
-    ensures { λ _. ⌜ MovesLinked table (now (links .exit)) ⌝ }
+    ensures { λ _. ⌜ TreesLinked by table (now (links .exit)) ⌝ }
 {
     let trees = table.len;
     for i in 0..trees {
         for j in i + 1..trees {
-            let apart = pairs::one_move_apart(table.trees[i], table.trees[j]);
-            links[i * Table::MAX_TREES + j] = apart as u8;
+            let linked = pairs::linked(by, table.trees[i], table.trees[j]);
+            links[i * Table::MAX_TREES + j] = linked as u8;
         }
     }
 }
 
-// Lists the pairs of trees of the table that are one move apart, and the neighbour counts of the trees; returns the number of pairs.
-pub fn list_pairs(pairs: &mut [u16], counts: &mut [u16], table: Table) -> usize
+// Lists the pairs of trees of the table that are so linked, and the neighbour counts of the trees; returns the number of pairs.
+pub fn list_pairs(pairs: &mut [u16], counts: &mut [u16], table: Table, by: Link) -> usize
     requires { ⌜ GraphRoom table (slices (now pairs) (now counts)) ⌝ }
     ensures { λ r. ⌜
-        GraphWritten table (slices (now (pairs .entry)) (now (counts .entry)))
+        GraphWritten by table (slices (now (pairs .entry)) (now (counts .entry)))
         (slices (now (pairs .exit)) (now (counts .exit))) r ⌝ }
 {
     let mut links = [0u8; Links::SIZE];
-    link_moves(&mut links, table);
+    link_trees(&mut links, table, by);
     list_links(pairs, counts, &links, table.len)
 }

@@ -38,7 +38,7 @@ small-second s l i = s l (In.second i)
 leaf-byte : {xs : List ℕ} {k l : ℕ} → Holds xs k (leaf l) → getD xs k 0 ≡ l
 leaf-byte {xs} {k} {l} h = own-is byte 0 xs k (leaf l) (h .stands)
 
-fork-byte : {xs : List ℕ} {k : ℕ} {a b : Tree} → Holds xs k (fork a b) → getD xs k 0 ≡ 64 + (leaves a + leaves b)
+pub fork-byte : {xs : List ℕ} {k : ℕ} {a b : Tree} → Holds xs k (fork a b) → getD xs k 0 ≡ 64 + (leaves a + leaves b)
 fork-byte {xs} {k} {a} {b} h = own-is byte 0 xs k (fork a b) (h .stands)
 
 -- a held fork's children are held

@@ -3,7 +3,7 @@
 use mathlib.Core.Path.{_≡_}
 use mathlib.Core.Bool.{Bool, true, false}
 use mathlib.Core.List.{List, _++_}
-use Prim.Native.Nat.{ℕ, _+_, _<_}
+use Prim.Native.Nat.{ℕ, _+_, _≤_, _<_}
 use lib.Seq.{sets}
 use lib.ListN.{length, drop, getD}
 
@@ -19,6 +19,12 @@ pub record Wrote {A : Type 0} (ys out out′ : List A) (at r : ℕ) : Type 0 whe
 -- `count` numbers of xs from i on are those of ys from j on
 abbrev pub SameRun : List ℕ → ℕ → List ℕ → ℕ → ℕ → Type 0
 SameRun xs i ys j count = (k : ℕ) → k < count → getD xs (i + k) 0 ≡ getD ys (j + k) 0
+
+-- of the first n numbers of xs and ys the first r are the same, and the next differ, if there are more
+pub record Common (xs ys : List ℕ) (n r : ℕ) : Type 0 where
+  pub few : r ≤ n
+  pub same : (i : ℕ) → i < r → getD xs i 0 ≡ getD ys i 0
+  pub differ : r < n → ¬ (getD xs r 0 ≡ getD ys r 0)
 
 -- r says whether P is so
 abbrev pub Says : Bool → Type 0 → Type 0

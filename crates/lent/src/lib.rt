@@ -3,7 +3,7 @@ ghost use mathlib.Core.Path.{_≡_};
 ghost use Prim.Native.Nat.{_+_, _≤_};
 ghost use lib.ListN.{length, take, drop, replicate};
 ghost use Rattle.meaning.specs.Lists.{member};
-ghost use Rattle.lent.specs.Runs.{Wrote, SameRun, Says};
+ghost use Rattle.lent.specs.Runs.{Wrote, SameRun, Common, Says};
 ghost use Rattle.lent.specs.Tallies.{TallyRoom, Tallied};
 
 pub fn wide(x: u8) -> usize
@@ -56,6 +56,18 @@ pub fn same_run(x: &[u8], i: usize, y: &[u8], j: usize, count: usize) -> bool
         }
     }
     true
+}
+
+// How many bytes from the start on x and y have in common; n is the most.
+pub fn common(x: &[u8], y: &[u8], n: usize) -> usize
+    requires { ⌜ (n ≤ length (now x)) × (n ≤ length (now y)) ⌝ }
+    ensures { λ r. ⌜ Common (now (x .entry)) (now (y .entry)) n r ⌝ }
+{
+    let mut i = 0;
+    while i < n && x[i] == y[i] {
+        i += 1;
+    }
+    i
 }
 
 // Whether v is one of the first n bytes of s.

@@ -13,18 +13,20 @@ use Rattle.meaning.specs.Limits.{textBytes}
 use Rattle.meaning.specs.Lists.{any}
 use Rattle.meaning.specs.Tree.{Tree, Distinct, Good, AllGood, SameClade, leaves}
 use Rattle.meaning.specs.Move.{Apart}
+use Rattle.meaning.specs.Interchange.{OneInterchange}
 use Rattle.meaning.specs.Reading.{Read, got, refused, readTree, readTable, unlike}
 use Rattle.meaning.specs.Refusals.{treeRefusals, formRefusals, cutRefusals, pairRefusals, tableCallRefusals, sheetRefusals, sheetCallRefusals}
 use Rattle.meaning.specs.Grammar.{OneText, TableText}
 use Rattle.meaning.specs.Listing.{Pair, Listing, At, treeOf}
 use Rattle.meaning.specs.Loops.{pairsOf}
-use Rattle.meaning.specs.Decide.{apart?}
+use Rattle.meaning.specs.Decide.{apart?, oneInterchange?}
 use Rattle.meaning.specs.Answer.{Answer, accepted, refusal, Outcome, TableMemory, GraphSize, GraphMemory, textOf, onward, conclude}
-use Rattle.meaning.specs.Calls.{enough, lent, limited, answered, formSlices, formRead, hasCut, cutSlices, cutRead, together, beside, pairRead, PairCall, is-apart, not-apart, tableRead, tableSlices, tableCallRead, graphSlices, graphRead, GraphCall, GraphBy, graphOf, lists}
+use Rattle.meaning.specs.Calls.{enough, lent, limited, answered, formSlices, formRead, hasCut, cutSlices, cutRead, together, beside, pairRead, PairCall, is-apart, not-apart, tableRead, tableSlices, tableCallRead, graphSlices, graphRead, GraphCall, GraphBy, graphOf, lists, InterchangeCall}
 use Rattle.meaning.specs.Sheet.{Sheet, prints, sheet, refusalLine, sheetSlices, sheetGiven, SheetCall, gives}
 use Rattle.meaning.proofs.Logic.{clash, cases}
 use Rattle.meaning.proofs.Lists.{one-of, Among, among}
 use Rattle.meaning.proofs.Decide.{apart-iff}
+use Rattle.meaning.proofs.Interchanges.{oneInterchange-iff}
 use Rattle.meaning.proofs.Listing.{listing-iff, pairsOf-lists}
 use Rattle.meaning.proofs.Sound.{read-iff, read-good, read-behind}
 use Rattle.meaning.proofs.Alike.{unlike-iff, unlike-line}
@@ -169,30 +171,41 @@ pair-exists s s′ = by (pairRead s s′) refl
     by (accepted x) e = decided (x .0) (x .1) e (apart? (x .0) (x .1)) refl
     by (refusal n i p) e = (refusal n i p, PairCall.refuses n i p e)
 
--- the pairs of a table, by computation
+-- the pairs of a table that pass a test
+abbrev pub pairsBy : (Tree → Tree → Bool) → List Tree → List Pair
+pairsBy test ts = pairsOf (length ts) (λ i j. test (treeOf ts i) (treeOf ts j))
+
+-- a relation that a test decides
+module _ (R : Tree → Tree → Type 0) (test : Tree → Tree → Bool) (decides : (t u : Tree) → Distinct t → Distinct u → T (test t u) ↔ R t u) where
+  -- so they are the listing
+  pub listing-by : (ts : List Tree) → ((i : ℕ) → i < length ts → Distinct (treeOf ts i)) → Listing (length ts) (At R ts) (pairsBy test ts)
+  listing-by ts D = listing-iff (λ i j h l. decides (treeOf ts i) (treeOf ts j) (D i (omega arith)) (D j l)) (pairsOf-lists (length ts) (λ i j. test (treeOf ts i) (treeOf ts j)))
+
+  listed-by : (ts : List Tree) → AllGood ts → Listing (length ts) (At R ts) (pairsBy test ts)
+  listed-by ts g = listing-by ts (λ i h. good-at ts g i h .distinct)
+
+  graph-by-exists : (s : List ℕ) (memory : GraphMemory) → (o : Outcome GraphSize GraphMemory) × GraphBy R s memory o
+  graph-by-exists s memory = by (graphRead s memory) refl
+    where
+      by : (a : Answer (List Tree)) → graphRead s memory ≡ a → (o : Outcome GraphSize GraphMemory) × GraphBy R s memory o
+      by (accepted ts) e = (graphOf ts (pairsBy test ts) memory, lists ts (pairsBy test ts) e (listed-by ts (tells-accepted (graph-tells s memory) e .0)))
+      by (refusal n i p) e = (record { answer = refusal n i p; memory = memory }, GraphBy.refuses n i p e)
+
+-- the pairs that are one move apart
 abbrev pub pairsIn : List Tree → List Pair
-pairsIn ts = pairsOf (length ts) (λ i j. apart? (treeOf ts i) (treeOf ts j))
-
--- they are the listing of the trees that are one move apart
-pub apart-listing : (ts : List Tree) → ((i : ℕ) → i < length ts → Distinct (treeOf ts i)) → Listing (length ts) (At Apart ts) (pairsIn ts)
-apart-listing ts D =
-    listing-iff (λ i j h l. apart-iff (treeOf ts i) (treeOf ts j) (D i (omega arith)) (D j l)) (pairsOf-lists (length ts) (λ i j. apart? (treeOf ts i) (treeOf ts j)))
-
-pub pairs-listed : (ts : List Tree) → AllGood ts → Listing (length ts) (At Apart ts) (pairsIn ts)
-pairs-listed ts g = apart-listing ts (λ i h. good-at ts g i h .distinct)
+pairsIn = pairsBy apart?
 
 pub graph-exists : (s : List ℕ) (memory : GraphMemory) → (o : Outcome GraphSize GraphMemory) × GraphCall s memory o
-graph-exists s memory = by (graphRead s memory) refl
-  where
-    by : (a : Answer (List Tree)) → graphRead s memory ≡ a → (o : Outcome GraphSize GraphMemory) × GraphCall s memory o
-    by (accepted ts) e = (graphOf ts (pairsIn ts) memory, lists ts (pairsIn ts) e (pairs-listed ts (tells-accepted (graph-tells s memory) e .0)))
-    by (refusal n i p) e = (record { answer = refusal n i p; memory = memory }, GraphBy.refuses n i p e)
+graph-exists = graph-by-exists Apart apart? apart-iff
+
+pub interchange-exists : (s : List ℕ) (memory : GraphMemory) → (o : Outcome GraphSize GraphMemory) × InterchangeCall s memory o
+interchange-exists = graph-by-exists OneInterchange oneInterchange? oneInterchange-iff
 
 pub sheet-exists : (s : List ℕ) → (x : List ℕ) × Sheet s x
 sheet-exists s = by (tableRead s) refl
   where
     by : (a : Answer (List Tree)) → tableRead s ≡ a → (x : List ℕ) × Sheet s x
-    by (accepted ts) e = (sheet ts (pairsIn ts), prints ts (pairsIn ts) e (pairs-listed ts (tells-accepted (table-tells s) e .0)))
+    by (accepted ts) e = (sheet ts (pairsIn ts), prints ts (pairsIn ts) e (listed-by Apart apart? apart-iff ts (tells-accepted (table-tells s) e .0)))
     by (refusal n i p) e = (refusalLine n p, Sheet.refuses n i p e)
 
 pub sheet-call-exists : (s out : List ℕ) → (o : Outcome ℕ (List ℕ)) × SheetCall s out o

@@ -9,6 +9,8 @@ pub mod Decide
 pub mod Determined
 pub mod Digits
 pub mod Forests
+pub mod Interchange
+pub mod Interchanges
 pub mod Labels
 pub mod Length
 pub mod Lent

@@ -11,7 +11,7 @@ use Rattle.meaning.specs.Tree.{Tree, AllGood, form, forms}
 use Rattle.meaning.specs.Move.{cutAt, forest}
 use Rattle.meaning.specs.Listing.{counts, flat}
 use Rattle.meaning.specs.Answer.{Answer, accepted, refusal, Outcome, TableMemory, GraphSize, GraphMemory, written, textOf, conclude}
-use Rattle.meaning.specs.Calls.{enough, lent, formCall, cutCall, tableRead, ends, tableSlices, tableCallRead, tableOf, tableCall, graphSlices, GraphBy, lists, GraphCall}
+use Rattle.meaning.specs.Calls.{enough, lent, formCall, cutCall, tableRead, ends, tableSlices, tableCallRead, tableOf, tableCall, graphSlices, GraphBy, lists}
 use Rattle.meaning.specs.Sheet.{Sheet, SheetCall, gives}
 use Rattle.meaning.proofs.Length.{form-length, forest-length}
 use Rattle.meaning.proofs.Forests.{cutAt-good}
@@ -81,7 +81,9 @@ table-memory s memory =
     let room = lent-ample (tableSlices memory) (tableRead s) e in
     (written-length (forms ts) (memory .texts) (omega (arith, forms-length ts (r .0))), written-length (ends 0 ts) (memory .ends) (omega (arith, ends-length 0 ts))))
 
-pub graph-memory : (s : List ℕ) (memory : GraphMemory) (o : Outcome GraphSize GraphMemory) → GraphCall s memory o → (length (o .memory .pairs) ≡ length (memory .pairs)) × (length (o .memory .counts) ≡ length (memory .counts))
+-- whatever links the trees
+pub graph-memory : {R : Tree → Tree → Type 0} (s : List ℕ) (memory : GraphMemory) (o : Outcome GraphSize GraphMemory) → GraphBy R s memory o
+    → (length (o .memory .pairs) ≡ length (memory .pairs)) × (length (o .memory .counts) ≡ length (memory .counts))
 graph-memory s memory o (GraphBy.refuses n i p e) = (refl, refl)
 graph-memory s memory o (lists ts ps e L) =
     let r = tells-accepted (graph-tells s memory) e in

@@ -22,7 +22,7 @@ use Rattle.meaning.specs.Sheet.{Sheet, prints, twoFields, treeLine, tree
 use Rattle.meaning.specs.Samples.{AllHold, samples}
 use Rattle.meaning.proofs.Decide.{distinct-iff, apart-iff}
 use Rattle.meaning.specs.Loops.{each, rowOf, pairsFrom}
-use Rattle.meaning.proofs.Calls.{pairsIn, apart-listing}
+use Rattle.meaning.proofs.Calls.{pairsIn, listing-by}
 
 -- a pair is decided by computation
 pub near : (t u : Tree) → T (distinct? t) → T (distinct? u) → T (apart? t u) → Apart t u
@@ -42,7 +42,7 @@ distinct-at (t ∷ ts) d zero h = distinct-iff t .0 (d .0)
 distinct-at (t ∷ ts) d (suc i) h = distinct-at ts (d .1) i (omega arith)
 
 pub listed : (ts : List Tree) (ps : List Pair) → Distincts ts → pairsIn ts ≡ ps → Listing (length ts) (At Apart ts) ps
-listed ts ps d e = subst (Listing (length ts) (At Apart ts)) e (apart-listing ts (distinct-at ts d))
+listed ts ps d e = subst (Listing (length ts) (At Apart ts)) e (listing-by Apart apart? apart-iff ts (distinct-at ts d))
 
 -- the trees of a table that is read
 abbrev trees : Read (List Tree) → List Tree

@@ -1,4 +1,4 @@
--- Five of the six calls (the sixth is in Sheet): from the texts, the cut number and the lent memory at entry to the answer and the memory at exit. In words: docs/RULES.md, 'The six calls'.
+-- Six of the seven calls (the seventh is in Sheet): from the texts, the cut number and the lent memory at entry to the answer and the memory at exit. In words: docs/RULES.md, 'The seven calls'.
 -- Assumes nothing.
 use mathlib.Core.Path.{_≡_}
 use mathlib.Core.Bool.{Bool, true, false, cond}
@@ -10,6 +10,7 @@ use Rattle.meaning.specs.Limits.{textBytes, formBytes, forestBytes, maxT
 use Rattle.meaning.specs.Lists.{every}
 use Rattle.meaning.specs.Tree.{Tree, leaves, form, forms}
 use Rattle.meaning.specs.Move.{cutAt, forest, Apart}
+use Rattle.meaning.specs.Interchange.{OneInterchange}
 use Rattle.meaning.specs.Reading.{Read, got, refused, readTree, readTable, unlike}
 use Rattle.meaning.specs.Listing.{Pair, Listing, At, counts, flat}
 use Rattle.meaning.specs.Answer.{Answer, accepted, refusal, Outcome, TableSize, TableMemory, GraphSize, GraphMemory, written, textOf, onward, conclude}
@@ -135,3 +136,7 @@ pub data GraphBy (R : Tree → Tree → Type 0) (s : List ℕ) (memory : GraphMe
 -- graph call: the pairs that are one move apart
 abbrev pub GraphCall : List ℕ → GraphMemory → Outcome GraphSize GraphMemory → Type 0
 GraphCall s memory outcome = GraphBy Apart s memory outcome
+
+-- interchange call: the pairs that are one interchange apart, in the graph call's slices
+abbrev pub InterchangeCall : List ℕ → GraphMemory → Outcome GraphSize GraphMemory → Type 0
+InterchangeCall s memory outcome = GraphBy OneInterchange s memory outcome

@@ -1,6 +1,7 @@
--- Tests that compute: distinct labels, the same topology, one move apart. In words: docs/RULES.md, 'Topology and canonical text' and 'The move'.
+-- Tests that compute: distinct labels, the same topology, one move apart, one interchange apart. In words: docs/RULES.md, 'Topology and canonical text', 'The move' and 'The interchange'.
 -- Assumes nothing.
 use mathlib.Core.Bool.{Bool, false, not, _&&_}
+use mathlib.Core.List.{List, [], _∷_, _++_, map}
 use Prim.Native.Nat.{ℕ}
 use lib.Dec.{eqb, leb}
 use Rattle.meaning.specs.Limits.{maxLabel}
@@ -42,3 +43,17 @@ shared t u = count (λ c. any (λ d. eqList (forest c) (forest d)) (cuts u)) (cu
 -- they differ, and share a forest
 abbrev pub apart? : Tree → Tree → Bool
 apart? t u = not (sameTopology? t u) && oneMove? t u
+
+-- the results of the interchanges that take a child of p, where p's sibling is z
+abbrev pub around : Tree → Tree → List Tree
+around (leaf n) z = []
+around (fork x y) z = fork y (fork x z) ∷ fork x (fork y z) ∷ []
+
+-- the results of all interchanges of a tree
+abbrev pub interchanges : Tree → List Tree
+interchanges (leaf n) = []
+interchanges (fork a b) = (around a b ++ map (λ r. fork r b) (interchanges a)) ++ (around b a ++ map (fork a) (interchanges b))
+
+-- one of them has u's topology
+abbrev pub oneInterchange? : Tree → Tree → Bool
+oneInterchange? t u = any (λ v. sameTopology? v u) (interchanges t)

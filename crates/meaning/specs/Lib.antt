@@ -3,6 +3,7 @@ pub mod Bytes
 pub mod Calls
 pub mod Decide
 pub mod Grammar
+pub mod Interchange
 pub mod Limits
 pub mod Listing
 pub mod Lists

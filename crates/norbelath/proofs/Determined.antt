@@ -5,7 +5,8 @@ use mathlib.Core.Bool.{Bool, true, false}
 use mathlib.Core.List.{List}
 use Prim.Native.Nat.{ℕ, zero, suc}
 use Rattle.meaning.specs.Answer.{Answer, accepted, refusal, Outcome, TableSize, TableMemory, GraphSize, GraphMemory}
-use Rattle.meaning.specs.Calls.{PairCall, GraphCall}
+use Rattle.meaning.specs.Tree.{Tree}
+use Rattle.meaning.specs.Calls.{PairCall, GraphBy}
 use Rattle.meaning.specs.Sheet.{SheetCall}
 use Rattle.meaning.proofs.Determined.{pair-determined, graph-determined, sheet-call-determined}
 use Rattle.norbelath.specs.Coded.{coded, textValue, pairValue, tableValue, graphValue, textCoded, tableCoded, graphCoded}
@@ -79,7 +80,9 @@ module _ {r r′ x x′ y y′ : ℕ} where
         ap (λ (z : Outcome TableSize TableMemory). z .memory .ends) h,
       )
 
-  pub graph-code-determined : {s : List ℕ} {memory : GraphMemory} {pairs pairs′ counts counts′ : List ℕ} → GraphCall s memory (graphCoded r x y pairs counts) → GraphCall s memory (graphCoded r′ x′ y′ pairs′ counts′) → (reply r x y ≡ reply r′ x′ y′) × (pairs ≡ pairs′) × (counts ≡ counts′)
+  pub graph-code-determined : {R : Tree → Tree → Type 0} {s : List ℕ} {memory : GraphMemory} {pairs pairs′ counts counts′ : List ℕ}
+      → GraphBy R s memory (graphCoded r x y pairs counts) → GraphBy R s memory (graphCoded r′ x′ y′ pairs′ counts′)
+      → (reply r x y ≡ reply r′ x′ y′) × (pairs ≡ pairs′) × (counts ≡ counts′)
   graph-code-determined e f =
       let h = graph-determined e f in (
         sym (graph-back r x y) ∙ ap (λ (z : Outcome GraphSize GraphMemory). graphNumbers (z .answer)) h ∙ graph-back r′ x′ y′,

@@ -6,10 +6,10 @@ use mathlib.Core.List.{List, List·Memᴰ}
 use Prim.Native.Nat.{ℕ, _≤_}
 use lib.Dec.{T, leb, leb→le}
 use Rattle.meaning.specs.Lists.{every}
-use Rattle.meaning.specs.Tree.{form}
+use Rattle.meaning.specs.Tree.{Tree, form}
 use Rattle.meaning.specs.Move.{cutAt, forest}
 use Rattle.meaning.specs.Answer.{Answer, Outcome, TableMemory, GraphSize, GraphMemory, textOf, conclude}
-use Rattle.meaning.specs.Calls.{formCall, cutCall, PairCall, is-apart, not-apart, tableOf, tableCall, GraphCall, GraphBy, lists}
+use Rattle.meaning.specs.Calls.{formCall, cutCall, PairCall, is-apart, not-apart, tableOf, tableCall, GraphBy, lists}
 use Rattle.meaning.specs.Sheet.{SheetCall, gives}
 use Rattle.meaning.proofs.Calls.{Tells, accepts, denies, tells-refusal, form-tells, cut-tells, pair-tells, table-call-tells, graph-tells, sheet-call-tells}
 use Rattle.meaning.proofs.Lists.{every-mem}
@@ -39,7 +39,7 @@ pair-numbered (is-apart t u e h) = tt
 pair-numbered (not-apart t u e h) = tt
 pair-numbered {s} {s′} (PairCall.refuses n i p e) = from-one tt (tells-refusal (pair-tells s s′) e .number)
 
-pub graph-numbered : {s : List ℕ} {memory : GraphMemory} {o : Outcome GraphSize GraphMemory} → GraphCall s memory o → Numbered (o .answer)
+pub graph-numbered : {R : Tree → Tree → Type 0} {s : List ℕ} {memory : GraphMemory} {o : Outcome GraphSize GraphMemory} → GraphBy R s memory o → Numbered (o .answer)
 graph-numbered (lists ts ps e L) = tt
 graph-numbered {s} {memory} (GraphBy.refuses n i p e) = from-one tt (tells-refusal (graph-tells s memory) e .number)
 

@@ -1,3 +1,6 @@
 pub mod Runs
 pub mod Search
 pub mod Apart
+pub mod Regroup
+pub mod Parts
+pub mod Walk

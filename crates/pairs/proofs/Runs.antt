@@ -16,13 +16,13 @@ use Rattle.lent.specs.Runs.{SameRun, Says}
 use Rattle.lent.proofs.Says.{says}
 
 -- the bytes of a held subtree
-byte-is : {xs : List ℕ} {i : ℕ} {t : Tree} → Holds xs i t → (k : ℕ) → k < nodes t → getD xs (i + k) 0 ≡ getD (pre t) k 0
+pub byte-is : {xs : List ℕ} {i : ℕ} {t : Tree} → Holds xs i t → (k : ℕ) → k < nodes t → getD xs (i + k) 0 ≡ getD (pre t) k 0
 byte-is {xs} {i} {t} h k lt =
     sym (getD-drop i xs k 0) ∙ ap (λ (l : List ℕ). getD l k 0) (h .stands .1) ∙ List·getD-append (pre t) (h .stands .0) 0 k (omega (arith, length-pre t))
 
 module _ {xs ys : List ℕ} {i j : ℕ} {s t : Tree} (g : Holds xs i s) (h : Holds ys j t) where
   -- the first byte tells the width
-  same-width : getD xs i 0 ≡ getD ys j 0 → nodes s ≡ nodes t
+  pub same-width : getD xs i 0 ≡ getD ys j 0 → nodes s ≡ nodes t
   same-width e = go (decLe (getD xs i 0) 64)
     where
       go : Dec (getD xs i 0 ≤ 64) → nodes s ≡ nodes t
@@ -38,7 +38,7 @@ module _ {xs ys : List ℕ} {i j : ℕ} {s t : Tree} (g : Holds xs i s) (h : Hol
   same-bytes : nodes s ≡ nodes t → SameRun xs i ys j (nodes s) → (k : ℕ) → k < nodes s → getD (pre s) k 0 ≡ getD (pre t) k 0
   same-bytes wide all k lt = sym (byte-is g k lt) ∙ all k lt ∙ byte-is h k (omega arith)
 
-  run-same : nodes s ≡ nodes t → SameRun xs i ys j (nodes s) → s ≡ t
+  pub run-same : nodes s ≡ nodes t → SameRun xs i ys j (nodes s) → s ≡ t
   run-same wide all =
       let bytes = ext-getD 0 (pre s) (pre t) (length-pre s ∙ wide ∙ sym (length-pre t)) (λ k lt. same-bytes wide all k (omega (arith, length-pre s))) in
       parted s t (g .small) (h .small) [] [] (ap (λ (l : List ℕ). l ++ []) bytes) .0

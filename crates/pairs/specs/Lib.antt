@@ -1,1 +1,3 @@
+pub mod Interchanged
+pub mod Link
 pub mod Pair

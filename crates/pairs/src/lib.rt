@@ -1,5 +1,8 @@
-// The pair test: whether two trees are one move apart.
+// The tests of two trees: whether they are one move apart, and whether they are one interchange apart.
+pub mod interchanges;
+
 use held::Tree;
+pub use interchanges::one_interchange_apart;
 ghost use mathlib.Core.Path.{_≡_};
 ghost use Rattle.meaning.specs.Tree.{Tree as Topology, canon};
 ghost use Rattle.meaning.specs.Move.{Apart};
@@ -7,6 +10,7 @@ ghost use Rattle.lent.specs.Runs.{Says};
 ghost use Rattle.held.specs.Held.{Holds, Held, HasCut, cutIn};
 ghost use Rattle.held.specs.Kept.{Keeps, Kept};
 ghost use Rattle.pairs.specs.Pair.{SharesForest};
+ghost use Rattle.pairs.specs.Link.{Linked};
 
 // Whether the subtree of x at i is that of y at j. Most that differ do so at their first byte, which also tells the width.
 fn same_subtree(x: &[u8], i: usize, y: &[u8], j: usize) -> bool
@@ -71,5 +75,22 @@ pub fn one_move_apart(a: Tree, b: Tree) -> bool
         false
     } else {
         shares_forest(a, b)
+    }
+}
+
+// What links two trees.
+pub enum Link {
+    Move,
+    Interchange,
+}
+
+// Whether a and b are linked so.
+pub fn linked(by: Link, a: Tree, b: Tree) -> bool
+    requires { ⌜ Kept a × Kept b ⌝ }
+    ensures { λ r. ⌜ ((t u : Topology) → Keeps a t → Keeps b u → Says r (Linked by t u)) ⌝ }
+{
+    match by {
+        Link::Move => one_move_apart(a, b),
+        Link::Interchange => one_interchange_apart(a, b),
     }
 }

@@ -125,6 +125,21 @@ fn print_counts(counts: &[u16], number: usize) {
     }
 }
 
+fn print_graph(answer: GraphAnswer, pairs: &[u16], counts: &[u16]) {
+    match answer {
+        GraphAnswer::Listed(trees, number) => {
+            print_number(trees);
+            print(b" trees, pairs");
+            print_pairs(pairs, number);
+            print(b", counts");
+            print_counts(counts, trees);
+            print(b"\n");
+        }
+        GraphAnswer::Refused(x) => print_refusal(x),
+    }
+}
+
+// The graph call, and the interchange call in the same slices.
 fn graph(text: &[u8]) {
     let mut pairs = [0u16; Table::PAIR_NUMBERS];
     let mut counts = [0u16; Table::MAX_TREES];
@@ -132,17 +147,10 @@ fn graph(text: &[u8]) {
     print(text);
     print(b" : ");
     let answer = calls::graph_call(text, &mut pairs, &mut counts);
-    match answer {
-        GraphAnswer::Listed(trees, number) => {
-            print_number(trees);
-            print(b" trees, pairs");
-            print_pairs(&pairs, number);
-            print(b", counts");
-            print_counts(&counts, trees);
-            print(b"\n");
-        }
-        GraphAnswer::Refused(x) => print_refusal(x),
-    }
+    print_graph(answer, &pairs, &counts);
+    print(b"interchanges : ");
+    let answer = calls::interchange_call(text, &mut pairs, &mut counts);
+    print_graph(answer, &pairs, &counts);
 }
 
 // A sheet ends each of its lines itself.
@@ -271,6 +279,8 @@ fn graphs() {
     graph(b"((1,2),3);(3,(2,1));(1,(2,3));((1,3),2);");
     graph(b"(((1,2),3),4);((1,2),(3,4));(((3,4),1),2);");
     graph(b"((((4,5),1),2),3);((((1,2),3),4),5);");
+    graph(b"(((1,2),3),4);(((2,3),1),4);(((1,3),2),4);((1,2),(3,4));(((1,2),4),3);");
+    graph(b"(((1,2),3),4);(((1,4),2),3);((2,3),(1,4));");
     graph(b"(1,2);(1,2");
 }
 

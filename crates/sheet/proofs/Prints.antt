@@ -23,6 +23,7 @@ use Rattle.reading.specs.declared.Refusal.{Refusal}
 use Rattle.reading.specs.declared.Step.the-variants.{Next, Refused}
 use Rattle.reading.specs.declared.tables.TableRead.{TableRead}
 use Rattle.reading.proofs.Steps.{step-next, step-denied}
+use Rattle.pairs.specs.declared.Link.the-variants.{Move}
 use Rattle.graph.specs.Graph.{ListRoom, GraphWritten}
 use Rattle.sheet.specs.Lines.{TreesListed, PairsListed, SheetFits}
 use Rattle.sheet.specs.Printed.{TableFits, SheetWritten, Printed}
@@ -32,7 +33,7 @@ use Rattle.sheet.proofs.Sizes.{sheet-fits}
 starts-with : {ys out o₁ : List ℕ} {r : ℕ} → Wrote ys out o₁ 0 r → length ys ≤ length out → Stands o₁ 0 ys
 starts-with {ys} {out} w fits = (drop (length ys) out, w .cells ∙ sets-start out ys fits)
 
-module _ {table : Table} {memory memory′ : GraphMemory} {m : ℕ} (room : ListRoom memory) (g : GraphWritten table memory memory′ m) where
+module _ {table : Table} {memory memory′ : GraphMemory} {m : ℕ} (room : ListRoom memory) (g : GraphWritten Move table memory memory′ m) where
   module _ (ts : List Topology) (h : KeepsAll table ts) where
     abbrev linked : List Pair
     linked = g ts h .linked

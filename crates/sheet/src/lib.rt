@@ -1,6 +1,7 @@
 // The pair lister's sheet, written into lent memory: each function returns the place behind what it wrote.
 use held::Table;
 use held::Tree;
+use pairs::Link;
 use reading::Refusal;
 use reading::Step;
 ghost use mathlib.Core.List.{List};
@@ -106,7 +107,7 @@ fn write_table_sheet(out: &mut [u8], table: Table) -> usize
 {
     let mut pairs = [0u16; Table::PAIR_NUMBERS];
     let mut counts = [0u16; Table::MAX_TREES];
-    let m = graph::list_pairs(&mut pairs, &mut counts, table);
+    let m = graph::list_pairs(&mut pairs, &mut counts, table, Link::Move);
     write_sheet(out, table, &pairs, &counts, m)
 }
 

@@ -12,6 +12,9 @@ const SHORT: Refusal = Refusal {
     place: 0,
 };
 
+/// A call that lists pairs into lent slices.
+type ListInto = fn(&[u8], &mut [u16], &mut [u16]) -> Result<GraphSize, Refusal>;
+
 fn refusal(x: plain::Refusal) -> Refusal {
     Refusal {
         number: x.number,
@@ -179,17 +182,40 @@ impl Comparison {
         assert_eq!(answer, size, "{}", shown(text));
     }
 
-    pub fn graph(&mut self, text: &[u8]) {
-        let expected = plain::graph(text)
+    /// The graph call and the interchange call.
+    pub fn graphs(&mut self, text: &[u8]) {
+        self.list_call(
+            text,
+            plain::graph(text),
+            norbelath::graph(text),
+            norbelath::graph_into,
+        );
+        self.list_call(
+            text,
+            plain::interchanges(text),
+            norbelath::interchanges(text),
+            norbelath::interchanges_into,
+        );
+    }
+
+    /// A call that lists pairs, returned and written.
+    fn list_call(
+        &mut self,
+        text: &[u8],
+        expected: Result<plain::Graph, plain::Refusal>,
+        returned: Result<Graph, Refusal>,
+        into: ListInto,
+    ) {
+        let expected = expected
             .map(|(pairs, counts)| Graph { pairs, counts })
             .map_err(refusal);
-        assert_eq!(norbelath::graph(text), expected, "{}", shown(text));
+        assert_eq!(returned, expected, "{}", shown(text));
 
         let pairs_len = enough(&mut self.random, GRAPH_PAIRS);
         let counts_len = enough(&mut self.random, GRAPH_COUNTS);
         let mut pairs = Lent::new(&mut self.random, pairs_len, |x| x as u16);
         let mut counts = Lent::new(&mut self.random, counts_len, |x| x as u16);
-        let answer = norbelath::graph_into(text, &mut pairs.slice, &mut counts.slice);
+        let answer = into(text, &mut pairs.slice, &mut counts.slice);
         self.count(&answer);
         match &expected {
             Ok(graph) => {
@@ -206,7 +232,7 @@ impl Comparison {
         assert_eq!(answer, size, "{}", shown(text));
     }
 
-    /// The table call and the graph call with the first slice too short, the second, or both.
+    /// The table call and the calls that list pairs with the first slice too short, the second, or both.
     pub fn short_tables(&mut self, text: &[u8]) {
         for (one, other) in [(true, false), (false, true), (true, true)] {
             let length = |random: &mut Random, short, least| {
@@ -225,14 +251,19 @@ impl Comparison {
             assert_eq!(answer, Err(SHORT), "{}", shown(text));
             self.count(&answer);
 
-            let len = length(&mut self.random, one, GRAPH_PAIRS);
-            let mut pairs = Lent::new(&mut self.random, len, |x| x as u16);
-            let len = length(&mut self.random, other, GRAPH_COUNTS);
-            let mut counts = Lent::new(&mut self.random, len, |x| x as u16);
-            let answer = norbelath::graph_into(text, &mut pairs.slice, &mut counts.slice);
-            assert!(pairs.holds(&[]) && counts.holds(&[]), "{}", shown(text));
-            assert_eq!(answer, Err(SHORT), "{}", shown(text));
-            self.count(&answer);
+            for list_into in [
+                norbelath::graph_into as ListInto,
+                norbelath::interchanges_into,
+            ] {
+                let len = length(&mut self.random, one, GRAPH_PAIRS);
+                let mut pairs = Lent::new(&mut self.random, len, |x| x as u16);
+                let len = length(&mut self.random, other, GRAPH_COUNTS);
+                let mut counts = Lent::new(&mut self.random, len, |x| x as u16);
+                let answer = list_into(text, &mut pairs.slice, &mut counts.slice);
+                assert!(pairs.holds(&[]) && counts.holds(&[]), "{}", shown(text));
+                assert_eq!(answer, Err(SHORT), "{}", shown(text));
+                self.count(&answer);
+            }
         }
     }
 }

@@ -115,15 +115,32 @@ impl Tree {
         }
     }
 
-    /// The tree after a random prune and regraft, which may give the same topology again.
+    /// The tree after a random prune and regraft, which may give the same topology again. Some are interchanges.
     pub fn moved(self, random: &mut Random) -> Tree {
         if self.nodes() == 1 {
             return self;
+        }
+        if random.percent(30) {
+            return self.interchanged(random);
         }
         let at = 1 + random.below(self.nodes() - 1);
         let (rest, gone) = self.pruned(at);
         let at = random.below(rest.nodes());
         rest.grafted(at, gone)
+    }
+
+    /// The tree with a random node regrafted above its aunt. Where the way down ends at a leaf, the tree as it is.
+    fn interchanged(self, random: &mut Random) -> Tree {
+        let (parent, aunt) = match self {
+            Fork(one, other) if random.percent(50) => (*one, *other),
+            Fork(one, other) => (*other, *one),
+            leaf => return leaf,
+        };
+        match parent {
+            Fork(one, other) if random.percent(10) => fork(*one, fork(*other, aunt)),
+            Fork(one, other) if random.percent(10) => fork(*other, fork(*one, aunt)),
+            parent => fork(parent.interchanged(random), aunt),
+        }
     }
 
     /// A text of the tree, `;` included: children in any order, and blanks before so many tokens in a hundred.

@@ -64,7 +64,7 @@ fn every_short_table() {
     let mut compare = Comparison::new(2);
     for text in every_text(b",;12 0", 5) {
         compare.table(&text);
-        compare.graph(&text);
+        compare.graphs(&text);
     }
     let least = [(0, 100), (1, 5_000), (2, 5_000), (5, 50)];
     compare.met("every short table", &least);
@@ -175,7 +175,7 @@ fn tables_of_trees() {
             damage(&mut compare.random, &mut text);
         }
         compare.table(&text);
-        compare.graph(&text);
+        compare.graphs(&text);
     }
     let least = [(0, 4_000), (1, 1_000), (2, 500), (3, 50), (5, 500), (6, 50)];
     compare.met("tables of trees", &least);
@@ -220,11 +220,11 @@ fn full_table() {
         tree = tree.moved(&mut compare.random);
     }
     compare.table(&text);
-    compare.graph(&text);
+    compare.graphs(&text);
     text.extend(b" \t;");
     compare.table(&text);
-    compare.graph(&text);
-    compare.met("full table", &[(0, 2), (6, 2)]);
+    compare.graphs(&text);
+    compare.met("full table", &[(0, 3), (6, 3)]);
 }
 
 /// Text lengths around the limit. Too long goes before anything in the text, and too short a slice before that.
@@ -248,7 +248,7 @@ fn long_texts() {
         compare.pair(&tree, &text);
         compare.pair(&text, &text);
         compare.table(&text);
-        compare.graph(&text);
+        compare.graphs(&text);
         compare.short_tables(&text);
     }
     compare.met("long texts", &[(0, 100), (1, 100), (7, 500), (8, 500)]);
@@ -277,7 +277,7 @@ fn deep_texts() {
         compare.cut(&text, turn as u64 % 130);
         compare.pair(&text, b"1;");
         compare.table(&text);
-        compare.graph(&text);
+        compare.graphs(&text);
     }
     let least = [(0, 1_000), (2, 1_000), (3, 1_000), (4, 5_000)];
     compare.met("deep texts", &least);
@@ -294,5 +294,5 @@ fn short_slices() {
         }
         compare.short_tables(&text);
     }
-    compare.met("short slices", &[(7, 12_000)]);
+    compare.met("short slices", &[(7, 18_000)]);
 }

@@ -1,4 +1,4 @@
--- `calls::graph_call` meets its contract.
+-- `calls::list_linked` meets its contract.
 -- Assumes nothing.
 use Rattle.calls.proofs.Graphing.{graph-refused, graph-room, graph-listed}
 use mathlib.Core.Path.{ap, _∙_}
@@ -12,8 +12,8 @@ use Rattle.meaning.specs.Calls.{graphRead}
 use Rattle.graph.specs.Graph.{slices}
 use Rattle.calls.specs.Lent.{TableLent}
 use Rattle.calls.proofs.Lent.{measured}
-use Rattle.calls.proofs.graph_call.Statement.{statement}
-use Rattle.calls.proofs.graph_call.Tie as tie
+use Rattle.calls.proofs.list_linked.Statement.{statement}
+use Rattle.calls.proofs.list_linked.Tie as tie
 
 -- the entry and the lent memory, from where the text was read, and what the call is given
 abbrev start : tie.After-read-lent-table → tie.Start
@@ -62,10 +62,10 @@ returns-2 : tie.Need-returns-2
 returns-2 c =
     let w = c .before .before .before .before in
     let d = w .before .before .before .before .before .before in
-    graph-listed (start d .args .s .now) (memory d) (given d) (w .before .before .before .before .step2 .given .1) (w .list-pairs .ensures)
+    graph-listed (start d .args .s .now) (memory d) (given d) (w .before .before .before .before .step2 .given .1) (start d .args .by) (w .list-pairs .ensures)
 
-pub graph-call-spec : {M : Type 1} → statement M
-graph-call-spec =
+pub list-linked-spec : {M : Type 1} → statement M
+list-linked-spec =
     tie.close
     (tie.spec
     enough-requires

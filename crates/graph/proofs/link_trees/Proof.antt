@@ -1,4 +1,4 @@
--- `graph::link_moves` meets its contract. The loops' invariants: the bytes of the places that are passed show which trees are one move apart.
+-- `graph::link_trees` meets its contract. The loops' invariants: the bytes of the places that are passed show which trees are linked.
 -- Assumes nothing.
 use mathlib.Core.Path.{_≡_}
 use mathlib.Core.List.{List}
@@ -7,35 +7,36 @@ use native.Mathlib.Omega.{arith}
 use borrow.Author.Needs.{needs}
 use lib.ListN.{length, length-set}
 use mir.Val.{boolByte}
-use Rattle.meaning.specs.Move.{Apart}
 use Rattle.meaning.specs.Listing.{At, treeOf}
 use Rattle.held.specs.declared.Table.{Table}
 use Rattle.held.proofs.Kept.{kept-at}
+use Rattle.pairs.specs.Link.{Linked}
+use Rattle.pairs.specs.declared.Link.{Link}
 use Rattle.graph.specs.Graph.{linkBytes, OfTrees}
 use Rattle.graph.proofs.Bytes.{ShowsTo, says-byte, shows-more}
-use Rattle.graph.proofs.link_moves.Statement.{statement}
-use Rattle.graph.proofs.link_moves.Tie as tie
+use Rattle.graph.proofs.link_trees.Statement.{statement}
+use Rattle.graph.proofs.link_trees.Tie as tie
 
--- the bytes of the first places show which trees are one move apart
-record LinkedTo (table : Table) (place : ℕ) (links : List ℕ) : Type 0 where
+-- the bytes of the first places show which trees are linked
+record LinkedTo (by : Link) (table : Table) (place : ℕ) (links : List ℕ) : Type 0 where
   long : length links ≡ linkBytes
-  shown : OfTrees table (λ ts. ShowsTo place links (length ts) (At Apart ts))
+  shown : OfTrees table (λ ts. ShowsTo place links (length ts) (At (Linked by) ts))
 
 abbrev Inv-loop2 : tie.InvT-loop2
-Inv-loop2 links₀ table trees i j₀ links j = (i < j) × LinkedTo table (i * 160 + j) links
+Inv-loop2 links₀ by table trees i j₀ links j = (i < j) × LinkedTo by table (i * 160 + j) links
 
 abbrev μ-loop2 : tie.MeasureT-loop2
-μ-loop2 links₀ table trees i j₀ links j = trees - j
+μ-loop2 links₀ by table trees i j₀ links j = trees - j
 
 abbrev Inv-loop : tie.InvT-loop
-Inv-loop links₀ table trees i₀ links i = LinkedTo table (i * 160) links
+Inv-loop links₀ by table trees i₀ links i = LinkedTo by table (i * 160) links
 
 abbrev μ-loop : tie.MeasureT-loop
-μ-loop links₀ table trees i₀ links i = trees - i
+μ-loop links₀ by table trees i₀ links i = trees - i
 
 -- no two trees have their byte between one place and another
-passed : {table : Table} {links : List ℕ} {place place′ : ℕ} → ((i j : ℕ) → i < j → j < table .len → i * 160 + j < place′ → i * 160 + j < place)
-    → LinkedTo table place links → LinkedTo table place′ links
+passed : {by : Link} {table : Table} {links : List ℕ} {place place′ : ℕ} → ((i j : ℕ) → i < j → j < table .len → i * 160 + j < place′ → i * 160 + j < place)
+    → LinkedTo by table place links → LinkedTo by table place′ links
 passed f l = record { long = l .long; shown = λ ts h i j lt inside before. l .shown ts h i j lt inside (f i j lt (omega (arith, h .count)) before) }
 
 -- the function's entry, from the head of the inner loop
@@ -51,20 +52,20 @@ add-j c = omega arith
 loop2-holds : tie.Need-loop2-holds Inv-loop2 μ-loop2 Inv-loop μ-loop
 loop2-holds c = (omega arith, passed (λ i j lt inside before. omega arith) (c .before .loop .inv))
 
-mul-one-move-apart : tie.Need-mul-one-move-apart Inv-loop2 μ-loop2 Inv-loop μ-loop
-mul-one-move-apart c = omega arith
+mul-linked : tie.Need-mul-linked Inv-loop2 μ-loop2 Inv-loop μ-loop
+mul-linked c = omega arith
 
-element-copy-out-one-move-apart : tie.Need-element-copy-out-one-move-apart Inv-loop2 μ-loop2 Inv-loop μ-loop
-element-copy-out-one-move-apart c = omega arith
+element-copy-out-linked : tie.Need-element-copy-out-linked Inv-loop2 μ-loop2 Inv-loop μ-loop
+element-copy-out-linked c = omega arith
 
-mul-one-move-apart-2 : tie.Need-mul-one-move-apart-2 Inv-loop2 μ-loop2 Inv-loop μ-loop
-mul-one-move-apart-2 c = omega arith
+mul-linked-2 : tie.Need-mul-linked-2 Inv-loop2 μ-loop2 Inv-loop μ-loop
+mul-linked-2 c = omega arith
 
-element-copy-out-one-move-apart-2 : tie.Need-element-copy-out-one-move-apart-2 Inv-loop2 μ-loop2 Inv-loop μ-loop
-element-copy-out-one-move-apart-2 c = omega arith
+element-copy-out-linked-2 : tie.Need-element-copy-out-linked-2 Inv-loop2 μ-loop2 Inv-loop μ-loop
+element-copy-out-linked-2 c = omega arith
 
-one-move-apart-requires : tie.Need-one-move-apart-requires Inv-loop2 μ-loop2 Inv-loop μ-loop
-one-move-apart-requires c κs =
+linked-requires : tie.Need-linked-requires Inv-loop2 μ-loop2 Inv-loop μ-loop
+linked-requires c κs =
     let l = c .before .before .before in
     let held = kept-at (start l .pre .0) in
     (held _ (omega arith), held _ (omega arith))
@@ -92,7 +93,7 @@ loop2-again c =
     let l = c .before .before .before .before in
     let i = l .before .before .loop .i in
     let j = l .loop2 .j in
-    let r = c .one-move-apart .result in
+    let r = c .linked .result in
     let last = l .loop2 .inv .1 in (
       omega arith,
       record {
@@ -100,8 +101,8 @@ loop2-again c =
         shown = λ ts h.
             let column : j < length ts = omega (arith, h .count, c .before .before .before .loop2-test .taken) in
             let row : i < length ts = omega (arith, l .loop2 .inv .0) in
-            let told = c .one-move-apart .ensures (treeOf ts i) (treeOf ts j) (h .each i row) (h .each j column) in
-            shows-more (At Apart ts) (l .loop2 .links) (length ts) i j (boolByte r) (h .few) column (omega (arith, last .long)) (says-byte r told) (last .shown ts h);
+            let told = c .linked .ensures (treeOf ts i) (treeOf ts j) (h .each i row) (h .each j column) in
+            shows-more (At (Linked (start l .args .by)) ts) (l .loop2 .links) (length ts) i j (boolByte r) (h .few) column (omega (arith, last .long)) (says-byte r told) (last .shown ts h);
       },
     )
 
@@ -117,8 +118,8 @@ loop-again c = passed (λ i j lt inside before. omega arith) (c .before .loop2 .
 returns : tie.Need-returns Inv-loop2 μ-loop2 Inv-loop μ-loop
 returns c ts h i j lt inside = c .before .loop .inv .shown ts h i j lt inside (omega (arith, h .count))
 
-pub link-moves-spec : {M : Type 1} → statement M
-link-moves-spec =
+pub link-trees-spec : {M : Type 1} → statement M
+link-trees-spec =
     tie.close
     (tie.spec
     Inv-loop2
@@ -128,11 +129,11 @@ link-moves-spec =
     loop-holds
     add-j
     loop2-holds
-    mul-one-move-apart
-    element-copy-out-one-move-apart
-    mul-one-move-apart-2
-    element-copy-out-one-move-apart-2
-    one-move-apart-requires
+    mul-linked
+    element-copy-out-linked
+    mul-linked-2
+    element-copy-out-linked-2
+    linked-requires
     cast-links
     mul-links
     add-links
