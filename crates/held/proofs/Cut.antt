@@ -63,26 +63,26 @@ module _ (t : Tree) (c : ℕ) (h : c < length (cuts t)) where
 
 -- the cuts of a fork: its children, and the cuts of these
 module _ (a b : Tree) where
-  first-cut : cutIn (fork a b) 0 ≡ record { rest = b; pruned = a }
+  pub first-cut : cutIn (fork a b) 0 ≡ record { rest = b; pruned = a }
   first-cut = cut-first a b (whole (fork a b))
 
-  second-cut : cutIn (fork a b) (suc (length (cuts a))) ≡ record { rest = a; pruned = b }
+  pub second-cut : cutIn (fork a b) (suc (length (cuts a))) ≡ record { rest = a; pruned = b }
   second-cut = cut-second a b (whole (fork a b))
 
-  first-deeper : (j : ℕ) → j < length (cuts a) → cutIn (fork a b) (suc j) ≡ deeper (λ r. fork r b) (cutIn a j)
+  pub first-deeper : (j : ℕ) → j < length (cuts a) → cutIn (fork a b) (suc j) ≡ deeper (λ r. fork r b) (cutIn a j)
   first-deeper j h = cut-in-first a b (whole (fork a b)) j h ∙ ap (deeper (λ r. fork r b)) (getD-any (cuts a) j (whole (fork a b)) (whole a) h)
 
-  second-deeper : (j : ℕ) → j < length (cuts b) → cutIn (fork a b) (suc (suc (length (cuts a) + j))) ≡ deeper (fork a) (cutIn b j)
+  pub second-deeper : (j : ℕ) → j < length (cuts b) → cutIn (fork a b) (suc (suc (length (cuts a) + j))) ≡ deeper (fork a) (cutIn b j)
   second-deeper j h = cut-in-second a b (whole (fork a b)) j h ∙ ap (deeper (fork a)) (getD-any (cuts b) j (whole (fork a b)) (whole b) h)
 
 -- which of them cut number c is
-data Which (a b : Tree) : ℕ → Type 0 where
+pub data Which (a b : Tree) : ℕ → Type 0 where
   at-first : Which a b 0
   at-second : Which a b (suc (length (cuts a)))
   below-first : (j : ℕ) → j < length (cuts a) → Which a b (suc j)
   below-second : (j : ℕ) → j < length (cuts b) → Which a b (suc (suc (length (cuts a) + j)))
 
-which : (a b : Tree) (c : ℕ) → c < length (cuts (fork a b)) → Which a b c
+pub which : (a b : Tree) (c : ℕ) → c < length (cuts (fork a b)) → Which a b c
 which a b zero h = at-first
 which a b (suc i) h = go (ℕ-discrete i (length (cuts a))) (decLt i (length (cuts a)))
   where

@@ -2,6 +2,7 @@ pub mod Alike
 pub mod Before
 pub mod Calls
 pub mod Canon
+pub mod Clade
 pub mod Complete
 pub mod Counts
 pub mod Cuts
@@ -11,6 +12,7 @@ pub mod Digits
 pub mod Forests
 pub mod Interchange
 pub mod Interchanges
+pub mod LabelBits
 pub mod Labels
 pub mod Length
 pub mod Lent

@@ -1,11 +1,11 @@
 -- Laws of tests, and what follows where two of them clash.
 -- Assumes nothing.
-use mathlib.Core.Path.{_≡_, refl}
+use mathlib.Core.Path.{_≡_, refl, subst}
 use mathlib.Core.Logic.{_↔_}
 use mathlib.Core.Bool.{Bool, true, false, _&&_, _||_, and-eq-true-iff}
 use Prim.Native.Nat.{ℕ}
 use native.Mathlib.Omega.{arith}
-use lib.Dec.{T}
+use lib.Dec.{T, eqb, eqb→eq, eqb-refl}
 
 -- two things that differ can't be equal: `clash cc`, where the equations in reach say that they are
 pub clash : {A : Type 0} → _≡_ {A = ℕ} 0 1 → A
@@ -19,6 +19,10 @@ cases P false f g = g refl
 -- one thing exactly when another, and that exactly when a third
 pub iff-then : {A B C : Type 0} → A ↔ B → B ↔ C → A ↔ C
 iff-then f g = (λ a. g .0 (f .0 a), λ c. f .1 (g .1 c))
+
+-- the test of two numbers
+pub T-eq : (a b : ℕ) → T (eqb a b) ↔ (a ≡ b)
+T-eq a b = (eqb→eq a b, λ e. subst (λ (x : ℕ). T (eqb a x)) e (eqb-refl a))
 
 -- tests that pass together
 pub T-and : (a b : Bool) → T (a && b) ↔ (T a × T b)

@@ -1,6 +1,7 @@
 pub mod Answer
 pub mod Bytes
 pub mod Calls
+pub mod Clade
 pub mod Decide
 pub mod Grammar
 pub mod Interchange

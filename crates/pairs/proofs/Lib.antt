@@ -1,6 +1,10 @@
+pub mod Apart
+pub mod Children
+pub mod Left
+pub mod Ordered
+pub mod Parts
+pub mod Regroup
 pub mod Runs
 pub mod Search
-pub mod Apart
-pub mod Regroup
-pub mod Parts
 pub mod Walk
+pub mod Ways

@@ -8,16 +8,13 @@ use native.Mathlib.Omega.{arith}
 use Rattle.meaning.specs.Tree.{Tree, fork, In, Distinct, Canonical, SameClade, SameTopology, least}
 use Rattle.meaning.specs.Interchange.{Forks, in-order, turned, Interchange, here, OneInterchange}
 use Rattle.meaning.proofs.Same.{_≈_, same, swap, ≈-refl, ≈-sym, ≈-trans, ≈-in, ≈-clade, ≈-distinct, ≈-topology, topology-≈, flip}
-use Rattle.meaning.proofs.Canon.{≈-canon, canonical-canon, least-in, least-le}
+use Rattle.meaning.proofs.Canon.{least-in, least-le}
 use Rattle.meaning.proofs.Moves.{move-labels}
 use Rattle.meaning.proofs.Interchange.{forks-≈, ≈-forks, interchange-move, interchange-distinct, interchange-apart, unlike, larger, aunt-apart}
 use Rattle.pairs.specs.Interchanged.{Regrouped}
+use Rattle.pairs.proofs.Ordered.{ordered-same}
 
 -- ---- canonical order
--- trees in canonical order that are equal up to the order of children are equal
-pub ordered-same : {t u : Tree} → Distinct t → Canonical t → Canonical u → t ≈ u → t ≡ u
-ordered-same {t} {u} D K L e = sym (canonical-canon t K) ∙ ≈-canon D e ∙ canonical-canon u L
-
 forks-canonical : {x y t : Tree} → Forks x y t → Canonical t → Canonical x × Canonical y
 forks-canonical in-order K = (K .0, K .1)
 forks-canonical turned K = (K .1, K .0)

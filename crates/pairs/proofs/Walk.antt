@@ -13,18 +13,18 @@ use Rattle.meaning.specs.Tree.{Tree, leaf, fork, leaves, Distinct, canon}
 use Rattle.meaning.specs.Interchange.{Forks, Interchange, here, OneInterchange}
 use Rattle.meaning.proofs.Logic.{clash, iff-then}
 use Rattle.meaning.proofs.Same.{≈-leaves, topology-≈, topology-sym}
-use Rattle.meaning.proofs.Canon.{canon-distinct, canon-canonical, canon-topology}
+use Rattle.meaning.proofs.Canon.{canon-distinct, canon-topology}
 use Rattle.meaning.proofs.Interchange.{interchange-leaves, interchange-distinct, interchange-sym, interchange-topology}
 use Rattle.lent.specs.Runs.{Common, Says}
 use Rattle.lent.proofs.Says.{says}
 use Rattle.held.specs.Held.{Holds, nodes, pre}
-use Rattle.held.specs.Kept.{Keeps, Kept}
+use Rattle.held.specs.Kept.{Keeps}
 use Rattle.held.specs.declared.Tree.{Tree as Record}
-use Rattle.held.proofs.Kept.{keeps-holds, keeps-long}
 use Rattle.held.proofs.Laws.{children, forked, leafed, fork-byte, some-nodes}
-use Rattle.pairs.specs.Interchanged.{InOrder, HeldInOrder, Regrouped}
+use Rattle.pairs.specs.Interchanged.{Regrouped}
+use Rattle.pairs.specs.Ordered.{InOrder}
 use Rattle.pairs.proofs.Runs.{byte-is, same-width, run-same}
-use Rattle.pairs.proofs.Parts.{SecondAt, forks-leaf}
+use Rattle.pairs.proofs.Children.{SecondAt, forks-leaf}
 use Rattle.pairs.proofs.Regroup.{step-second, step-first, step-here, regrouped-interchange}
 
 -- ---- leaves
@@ -145,13 +145,6 @@ down-forks {xs} {ys} {same} {k} {t} {u} w large large′ =
     (f .first, f .second, g .first, g .second, subst₂ (Down xs ys same k t u) (f .is) (g .is) w)
 
 -- ---- records
--- a record keeps a tree in order
-pub kept-in-order : {tree : Record} → Kept tree → HeldInOrder (tree .node)
-kept-in-order p =
-    let t = p .topology in
-    let D = p .keeps .good .distinct in
-    record { tree = canon t; holds = keeps-holds (p .keeps); in-order = record { distinct = canon-distinct t D; canonical = canon-canonical t D }; long = keeps-long (p .keeps) }
-
 -- what is said of the canonical forms is said of the trees
 pub kept-says : {one two : Record} {t u : Tree} → Keeps one t → Keeps two u → (q : Bool) → Says q (OneInterchange (canon t) (canon u)) → Says q (OneInterchange t u)
 kept-says {t} {u} k l =

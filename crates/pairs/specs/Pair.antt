@@ -1,11 +1,27 @@
 -- Forests that two trees share, cut by cut as the trees are held.
 -- Assumes nothing.
 use mathlib.Core.Path.{_≡_}
+use mathlib.Core.List.{List}
 use Prim.Native.Nat.{ℕ, _<_}
 use lib.ListN.{length}
 use Rattle.meaning.specs.Tree.{Tree, canon}
 use Rattle.meaning.specs.Move.{Cut, cuts, Shares}
-use Rattle.held.specs.Held.{cutIn}
+use Rattle.meaning.specs.Clade.{clade}
+use Rattle.held.specs.Held.{Holds, cutIn}
+use Rattle.clades.specs.Marks.{Noted}
+use Rattle.pairs.specs.Ordered.{InOrder, HeldInOrder}
+
+-- xs holds a tree in order that has a cut number c
+pub record OrderedCut (xs : List ℕ) (c : ℕ) : Type 0 where
+  pub tree : Tree
+  pub holds : Holds xs 0 tree
+  pub in-order : InOrder tree
+  pub is-cut : c < length (cuts tree)
+
+-- xs holds a tree in order from the start on, and m has the clades of its nodes
+pub record Marked (xs m : List ℕ) : Type 0 where
+  pub whole : HeldInOrder xs
+  pub marks : Noted clade xs m
 
 -- two cuts take the same subtree away and leave trees of one canonical form
 pub record SameForest (c d : Cut) : Type 0 where

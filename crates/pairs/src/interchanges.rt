@@ -1,22 +1,14 @@
 // The interchange test: whether two trees are one nearest-neighbour interchange apart.
 use super::same_subtree;
+use super::second_child;
 use held::Tree;
-ghost use mathlib.Core.Path.{_≡_};
-ghost use Prim.Native.Nat.{_+_};
-ghost use Rattle.meaning.specs.Tree.{Tree as Topology, fork};
+ghost use Rattle.meaning.specs.Tree.{Tree as Topology};
 ghost use Rattle.meaning.specs.Interchange.{Forks, OneInterchange};
 ghost use Rattle.lent.specs.Runs.{Says};
-ghost use Rattle.held.specs.Held.{Holds, Held, nodes};
+ghost use Rattle.held.specs.Held.{Holds, Held};
 ghost use Rattle.held.specs.Kept.{Keeps, Kept};
-ghost use Rattle.pairs.specs.Interchanged.{HeldInOrder, HeldFork, Both, Hangs, Regrafted, Regrouped};
-
-// The index of the second child of the fork at k.
-fn second_child(n: &[u8], k: usize) -> usize
-    requires { ⌜ HeldFork (now n) k ⌝ }
-    ensures { λ r. ⌜ ((a b : Topology) → Holds (now (n .entry)) k (fork a b) → r ≡ k + 1 + nodes a) ⌝ }
-{
-    k + 1 + held::width(n, k + 1)
-}
+ghost use Rattle.pairs.specs.Interchanged.{Both, Hangs, Regrafted, Regrouped};
+ghost use Rattle.pairs.specs.Ordered.{HeldInOrder, HeldFork};
 
 // Whether the subtrees of x at i and j are those of y at k and l.
 fn same_both(x: &[u8], i: usize, j: usize, y: &[u8], k: usize, l: usize) -> bool

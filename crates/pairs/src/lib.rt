@@ -1,15 +1,18 @@
 // The tests of two trees: whether they are one move apart, and whether they are one interchange apart.
 pub mod interchanges;
+pub mod remainders;
 
 use held::Tree;
 pub use interchanges::one_interchange_apart;
 ghost use mathlib.Core.Path.{_≡_};
-ghost use Rattle.meaning.specs.Tree.{Tree as Topology, canon};
+ghost use Prim.Native.Nat.{_+_};
+ghost use Rattle.meaning.specs.Tree.{Tree as Topology, fork, canon};
 ghost use Rattle.meaning.specs.Move.{Apart};
 ghost use Rattle.lent.specs.Runs.{Says};
-ghost use Rattle.held.specs.Held.{Holds, Held, HasCut, cutIn};
+ghost use Rattle.held.specs.Held.{Holds, Held, HasCut, nodes, cutIn};
 ghost use Rattle.held.specs.Kept.{Keeps, Kept};
-ghost use Rattle.pairs.specs.Pair.{SharesForest};
+ghost use Rattle.pairs.specs.Ordered.{HeldFork};
+ghost use Rattle.pairs.specs.Pair.{OrderedCut, Marked, SameForest, SharesForest};
 ghost use Rattle.pairs.specs.Link.{Linked};
 
 // Whether the subtree of x at i is that of y at j. Most that differ do so at their first byte, which also tells the width.
@@ -23,6 +26,14 @@ fn same_subtree(x: &[u8], i: usize, y: &[u8], j: usize) -> bool
     lent::same_run(x, i, y, j, held::width(x, i))
 }
 
+// The index of the second child of the fork at k.
+fn second_child(n: &[u8], k: usize) -> usize
+    requires { ⌜ HeldFork (now n) k ⌝ }
+    ensures { λ r. ⌜ ((a b : Topology) → Holds (now (n .entry)) k (fork a b) → r ≡ k + 1 + nodes a) ⌝ }
+{
+    k + 1 + held::width(n, k + 1)
+}
+
 // Whether cut c of x and cut d of y take the same subtree away: cut number c is node number c + 1.
 fn same_pruned(x: &[u8], c: usize, y: &[u8], d: usize) -> bool
     requires { ⌜ HasCut (now x) c × HasCut (now y) d ⌝ }
@@ -33,36 +44,60 @@ fn same_pruned(x: &[u8], c: usize, y: &[u8], d: usize) -> bool
     same_subtree(x, c + 1, y, d + 1)
 }
 
-// Whether cut c of a and cut d of b leave the same tree.
-fn same_remainder(a: Tree, c: usize, b: Tree, d: usize) -> bool
-    requires { ⌜ HasCut (a .node) c × HasCut (b .node) d ⌝ }
+// Whether cut c of x and cut d of y leave the same tree.
+fn same_remainder(x: &[u8], c: usize, y: &[u8], d: usize) -> bool
+    requires { ⌜ OrderedCut (now x) c × OrderedCut (now y) d ⌝ }
     ensures { λ r. ⌜
-        ((t u : Topology) → Holds (a .node) 0 t → Holds (b .node) 0 u
+        ((t u : Topology) → Holds (now (x .entry)) 0 t → Holds (now (y .entry)) 0 u
         → Says r (canon (cutIn t c .rest) ≡ canon (cutIn u d .rest))) ⌝ }
 {
-    let x = a.remainder(c);
-    let y = b.remainder(d);
-    same_subtree(&x.node, 0, &y.node, 0)
+    remainders::same_left(x, 0, c + 1, y, 0, d + 1)
 }
 
-// Whether a cut of each tree has the same forest. The search is over at the first. A remainder has to be put in order anew,
-// so it is worked out only where both cuts prune the same subtree; labels are distinct, so that is at most once for a cut.
-fn shares_forest(a: Tree, b: Tree) -> bool
-    requires { ⌜ Held (a .node) 0 × Held (b .node) 0 ⌝ }
-    ensures { λ r. ⌜ ((t u : Topology) → Holds (a .node) 0 t → Holds (b .node) 0 u → Says r (SharesForest t u)) ⌝ }
+// Whether cut c of x and cut d of y have the same forest.
+fn same_forest(x: &[u8], c: usize, y: &[u8], d: usize) -> bool
+    requires { ⌜ OrderedCut (now x) c × OrderedCut (now y) d ⌝ }
+    ensures { λ r. ⌜
+        ((t u : Topology) → Holds (now (x .entry)) 0 t → Holds (now (y .entry)) 0 u
+        → Says r (SameForest (cutIn t c) (cutIn u d))) ⌝ }
 {
-    let n = held::width(&a.node, 0) - 1;
-    let m = held::width(&b.node, 0) - 1;
+    if !same_pruned(x, c, y, d) {
+        return false;
+    }
+    same_remainder(x, c, y, d)
+}
+
+// Whether a cut of x and a cut of y have the same forest; m and n are the clades of their nodes. The search is over at the first.
+// Parts are compared only where the same clade is pruned: labels are distinct, so a cut meets that at most once in another tree.
+fn find_forest(x: &[u8], m: &[u64; Tree::MAX_NODES], y: &[u8], n: &[u64; Tree::MAX_NODES]) -> bool
+    requires { ⌜ Marked (now x) (now m) × Marked (now y) (now n) ⌝ }
+    ensures { λ r. ⌜ ((t u : Topology) → Holds (now (x .entry)) 0 t → Holds (now (y .entry)) 0 u → Says r (SharesForest t u)) ⌝ }
+{
+    let nodes = held::width(x, 0);
+    let others = held::width(y, 0);
     let mut found = false;
-    'search: for c in 0..n {
-        for d in 0..m {
-            if same_pruned(&a.node, c, &b.node, d) && same_remainder(a, c, b, d) {
+    'search: for p in 1..nodes {
+        let gone = m[p];
+        for q in 1..others {
+            if n[q] == gone && same_forest(x, p - 1, y, q - 1) {
                 found = true;
                 break 'search;
             }
         }
     }
     found
+}
+
+// Whether two trees share a forest.
+fn shares_forest(a: Tree, b: Tree) -> bool
+    requires { ⌜ Kept a × Kept b ⌝ }
+    ensures { λ r. ⌜ ((t u : Topology) → Holds (a .node) 0 t → Holds (b .node) 0 u → Says r (SharesForest t u)) ⌝ }
+{
+    let mut m = [0u64; Tree::MAX_NODES];
+    clades::note(&mut m, &a.node);
+    let mut n = [0u64; Tree::MAX_NODES];
+    clades::note(&mut n, &b.node);
+    find_forest(&a.node, &m, &b.node, &n)
 }
 
 // Whether the topologies differ and one move of the one gives the other: distinct trees are one move apart exactly when they

@@ -16,7 +16,7 @@ same-subtree-requires : tie.Need-same-subtree-requires
 same-subtree-requires c κs = both-held (c .before .before .before .before .before .before)
 
 shares-forest-requires : tie.Need-shares-forest-requires
-shares-forest-requires c κs = both-held (c .before .before .before .before .before .before .before .before)
+shares-forest-requires c κs = c .before .before .before .before .before .before .before .before .pre
 
 returns : tie.Need-returns
 returns c = λ t u k l.

@@ -1,39 +1,31 @@
 -- `pairs::same_remainder` meets its contract.
 -- Assumes nothing.
-use borrow.Author.Needs.{needs}
-use mathlib.Core.Path.{_≡_}
+use Prim.Native.Nat.{_+_, _<_}
+use native.Mathlib.Omega.{arith}
 use lib.ListN.{length}
-use Rattle.pairs.proofs.Search.{Left, rest-left}
+use Rattle.held.proofs.Laws.{within}
+use Rattle.pairs.proofs.Search.{has-cut, pruned-held, cutting, says-rest}
 use Rattle.pairs.proofs.same_remainder.Statement.{statement}
 use Rattle.pairs.proofs.same_remainder.Tie as tie
 
-remainder-requires : tie.Need-remainder-requires
-remainder-requires c κs = search needs
+-- the nodes of both cuts are in the arrays
+first-fits : (c : tie.After-shared-slice-known2) → let s = c .before .before in s .args .c + 1 < length (s .args .x .now)
+first-fits c = within (pruned-held (has-cut (c .before .before .pre .0)) .holds)
 
-remainder-requires-2 : tie.Need-remainder-requires-2
-remainder-requires-2 c κs = search needs
+second-fits : (c : tie.After-shared-slice-known2) → let s = c .before .before in s .args .d + 1 < length (s .args .y .now)
+second-fits c = within (pruned-held (has-cut (c .before .before .pre .1)) .holds)
 
--- the remainders are held
-left-of-a : (c : tie.After-remainder) → Left (c .before .args .a .node) (c .before .args .c) (c .remainder .result .node)
-left-of-a c =
-    let len : length (c .before .args .a .node) ≡ 127 = search needs in
-    rest-left (c .before .pre .0) len (c .remainder .ensures)
+add-same-left : tie.Need-add-same-left
+add-same-left c = omega (arith, first-fits c)
 
-left-of-b : (c : tie.After-remainder2) → Left (c .before .before .args .b .node) (c .before .before .args .d) (c .remainder2 .result .node)
-left-of-b c =
-    let len : length (c .before .before .args .b .node) ≡ 127 = search needs in
-    rest-left (c .before .before .pre .1) len (c .remainder2 .ensures)
+add-same-left-2 : tie.Need-add-same-left-2
+add-same-left-2 c = omega (arith, first-fits c, second-fits c)
 
-same-subtree-requires : tie.Need-same-subtree-requires
-same-subtree-requires c κs =
-    let y = c .before .before .before .before .before .before in
-    (left-of-a (y .before) .held, left-of-b y .held)
+same-left-requires : tie.Need-same-left-requires
+same-left-requires c κs = let p = c .before .before .pre in search (cutting (p .0), cutting (p .1))
 
 returns : tie.Need-returns
-returns c =
-    let y = c .before .before .before .before .before .before .before in
-    λ t u g h. c .same-subtree .ensures _ _ (left-of-a (y .before) .holds t g) (left-of-b y .holds u h)
+returns c = let p = c .before .before .before .pre in says-rest (p .0) (p .1) (c .same-left .result) (c .same-left .ensures)
 
 pub same-remainder-spec : {M : Type 1} → statement M
-same-remainder-spec =
-    tie.close (tie.spec remainder-requires remainder-requires-2 same-subtree-requires returns)
+same-remainder-spec = tie.close (tie.spec add-same-left add-same-left-2 same-left-requires returns)

@@ -2,7 +2,8 @@
 -- Assumes nothing.
 use Rattle.meaning.specs.Tree.{canon}
 use Rattle.held.proofs.Kept.{keeps-holds}
-use Rattle.pairs.proofs.Walk.{kept-in-order, kept-says}
+use Rattle.pairs.proofs.Ordered.{kept-in-order}
+use Rattle.pairs.proofs.Walk.{kept-says}
 use Rattle.pairs.proofs.interchanges.one_interchange_apart.Statement.{statement}
 use Rattle.pairs.proofs.interchanges.one_interchange_apart.Tie as tie
 

@@ -10,8 +10,10 @@ use Rattle.lent.specs.Runs.{Says}
 use Rattle.lent.proofs.Says.{said, denied}
 use Rattle.held.specs.Held.{Holds, Held}
 use Rattle.held.proofs.Laws.{within}
-use Rattle.pairs.specs.Interchanged.{HeldFork, Regrafted, Regrouped}
-use Rattle.pairs.proofs.Parts.{holds-first, holds-second, each-forks, regrouped-by, regrouped-says}
+use Rattle.pairs.specs.Interchanged.{Regrafted, Regrouped}
+use Rattle.pairs.specs.Ordered.{HeldFork}
+use Rattle.pairs.proofs.Children.{holds-first, holds-second, each-forks}
+use Rattle.pairs.proofs.Parts.{regrouped-by, regrouped-says}
 use Rattle.pairs.proofs.interchanges.regrouped.Statement.{statement}
 use Rattle.pairs.proofs.interchanges.regrouped.Tie as tie
 

@@ -10,8 +10,8 @@ use Rattle.meaning.specs.Tree.{Tree, fork}
 use Rattle.lent.proofs.Says.{said, denied}
 use Rattle.held.specs.Held.{Holds}
 use Rattle.held.proofs.Laws.{within, inside, unique}
-use Rattle.pairs.specs.Interchanged.{InOrder, HeldFork}
-use Rattle.pairs.proofs.Parts.{holds-second, second-held}
+use Rattle.pairs.specs.Ordered.{InOrder, HeldFork}
+use Rattle.pairs.proofs.Children.{holds-second, second-held}
 use Rattle.pairs.proofs.Walk.{Down, down-forks, down-second, down-first, down-here, leaf-ends, leaf-ends′}
 use Rattle.pairs.proofs.interchanges.walk_down.Statement.{statement}
 use Rattle.pairs.proofs.interchanges.walk_down.Tie as tie

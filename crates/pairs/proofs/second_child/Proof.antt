@@ -1,10 +1,10 @@
--- `pairs::interchanges::second_child` meets its contract.
+-- `pairs::second_child` meets its contract.
 -- Assumes nothing.
 use native.Mathlib.Omega.{arith}
 use Rattle.held.proofs.Laws.{inside}
-use Rattle.pairs.proofs.Parts.{first-held, holds-first}
-use Rattle.pairs.proofs.interchanges.second_child.Statement.{statement}
-use Rattle.pairs.proofs.interchanges.second_child.Tie as tie
+use Rattle.pairs.proofs.Children.{first-held, holds-first}
+use Rattle.pairs.proofs.second_child.Statement.{statement}
+use Rattle.pairs.proofs.second_child.Tie as tie
 
 add-result : tie.Need-add-result
 add-result c = omega (arith, inside (c .before .pre .holds))
