@@ -52,7 +52,7 @@ extern "C" {
 /* Results. The place of a refusal is given behind each; 7, 8 and 9 have place 0. */
 #define NORBELATH_ACCEPTED 0
 #define NORBELATH_WRONG_BYTE 1     /* a byte that cannot stand there, or the text ends too soon: that byte, or the length */
-#define NORBELATH_BAD_LABEL 2      /* a label with a leading zero or not 1 to 64: its first digit */
+#define NORBELATH_BAD_LABEL 2      /* a label that is not 1 to 64: its first digit */
 #define NORBELATH_LABEL_AGAIN 3    /* a label that is already in this tree: its first digit */
 #define NORBELATH_TOO_DEEP 4       /* a bracket that opens while 63 are open: that bracket */
 #define NORBELATH_LABELS_DIFFER 5  /* labels other than the first tree's: the `;` of the tree that differs */

@@ -96,6 +96,12 @@ function trimmed(text) {
     return text
 }
 
+# a number without the zeros in front of it: 007 and 7 are one taxon
+function plain(number) {
+    if (number !~ /[^0-9]/) sub(/^0+/, "", number)
+    return number
+}
+
 # the translate block: taxon numbers and their names, which have to be the same in all files
 function translate(text,   n, i, entry, number, name) {
     translated = 1
@@ -105,10 +111,10 @@ function translate(text,   n, i, entry, number, name) {
         if (number == "") continue
         sub(/[ \t].*/, "", number)
         sub(/^[^ \t]+[ \t]*/, "", name)
-        if (number in name_of && name_of[number] != name)
-            fail(file ": " number " is " name " here, and " name_of[number] " before")
-        name_of[number] = name
-        here[file, number] = 1
+        if (plain(number) in name_of && name_of[plain(number)] != name)
+            fail(file ": " number " is " name " here, and " name_of[plain(number)] " before")
+        name_of[plain(number)] = name
+        here[file, plain(number)] = 1
     }
 }
 
@@ -127,7 +133,7 @@ function tree(text, unrooted,   n, i, label, which) {
     for (i = 1; i <= n; i++) {
         if (label[i] ~ /[^0-9]/)
             fail(which "has \"" label[i] "\"; taxa have to be numbers" (translated ? ", as the translate block gives them" : ""))
-        if (translated && label[i] != "" && !((file, label[i]) in here))
+        if (translated && label[i] != "" && !((file, plain(label[i])) in here))
             fail(which "has " label[i] ", which the translate block does not have")
     }
     taken_text[found] = text ";"

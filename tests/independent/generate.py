@@ -39,7 +39,7 @@ TELLING_BYTES = (
 # Labels out of range.  Among them are numbers that are 1 or 64 again when
 # taken modulo 2^8, 2^16, 2^32 or 2^64.
 BAD_LABELS = (
-    b"0", b"00", b"01", b"064", b"0000000001", b"65", b"66", b"99", b"100",
+    b"0", b"00", b"000", b"065", b"0000000100", b"65", b"66", b"99", b"100",
     b"101", b"255", b"256", b"257", b"320", b"640", b"65537", b"4294967297",
     b"4294967360", b"18446744073709551617", b"18446744073709551680",
     b"340282366920938463463374607431768211457",
@@ -446,15 +446,25 @@ def damage_token(rng, table):
         table[place] = rng.choice((b"(", b")", b",", b";", b"1", b"9", b"64", b"65", b"0"))
 
 
+def zeros_before_labels(rng):
+    """A table with zeros in front of some labels, at times very many."""
+    table = table_tokens(usual_table(rng))
+    share = rng.choice((0.1, 0.5, 1.0))
+    for place, token in enumerate(table):
+        if token.isdigit() and rng.random() < share:
+            table[place] = b"0" * rng.choice((1, 1, 1, 2, 3, rng.randint(4, 80))) + token
+    return with_blanks(rng, table, rng.choice((0.0, 0.2)))
+
+
 def damaged_label(rng):
-    """A label replaced by one that is out of range or has a leading zero."""
+    """A label replaced by one that is out of range, with zeros in front or not."""
     table = table_tokens(usual_table(rng))
     place = rng.choice([i for i, token in enumerate(table) if token.isdigit()])
     way = rng.randrange(4)
     if way == 0:
-        table[place] = b"0" * rng.randint(1, 3) + table[place]
+        table[place] = b"0" * rng.randint(1, 3) + rng.choice(BAD_LABELS)
     elif way == 1:
-        table[place] = bytes(rng.choices(b"0123456789", k=rng.randint(3, 5000)))
+        table[place] = b"1" + bytes(rng.choices(b"0123456789", k=rng.randint(2, 5000)))
     else:
         table[place] = rng.choice(BAD_LABELS)
     text = with_blanks(rng, table, rng.choice((0.0, 0.2)))
@@ -574,6 +584,7 @@ KINDS = (
     ("large", 1, accepted(large_table)),
     ("interchanges", 4, accepted(interchange_table)),
     ("crowd", 1, accepted(crowded_table)),
+    ("zeros", 4, zeros_before_labels),
     ("deep-comb", 1, deep_comb),
     ("damaged-bytes", 12, damaged_bytes),
     ("damaged-tokens", 8, damaged_tokens),
@@ -624,13 +635,16 @@ def byte_cases():
 
 
 def label_cases():
-    """Labels out of range, with leading zeros, repeated, or cut off."""
+    """Labels out of range, with zeros in front, repeated, or cut off."""
     texts = [b"(1,%s);" % bad for bad in BAD_LABELS]
     texts += [b"%s;" % bad for bad in BAD_LABELS[:8]]
     texts += [b"%d;" % good for good in (1, 9, 10, 11, 32, 33, 63, 64)]
     texts += [
         b"(1,65", b"(1,1", b"(1,10", b"(10,1", b"0", b"65", b"(1,65x", b"(1,1x", b"(1,01",
         b"(1,1)65;", b"(01,01);", b"(64,64);", b"(1,064);", b"(6,64);",
+        b"01;", b"007;", b"(01,1);", b"(1,001);", b"(02,1);", b"(1,0 2);", b"(1,2)0;", b"(1,02",
+        b"(010,2);", b"(1,02);(01,2);", b"0000000001;", b"0" * 60000 + b"7;",
+        b"0" * 65534 + b";", b"0" * 65533 + b"1;", b"0" * 65532 + b"65;",
         b"((1,2),(3,1));", b"((1,2),(2,65));", b"((1,2),(65,2));",
         b"(1,2);(1,1);", b"(1,2);(2,65);", b"(1,2);(3,3);", b"(1,2);(3,03);",
         b"(1," + b"9" * 5000 + b");", b"(1," + b"0" * 5000 + b"2);", b"1" * 65535,

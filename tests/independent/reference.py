@@ -311,11 +311,10 @@ class Reader:
         start = self.place
         while self.byte_here() and self.byte_here() in DIGITS:
             self.place += 1
-        digits = self.text[start:self.place]
+        digits = self.text[start:self.place].lstrip(b"0")
         # The length is looked at before the value, because the run may be
         # longer than Python turns into a number.
-        too_long = len(digits) > len(str(LARGEST_LABEL))
-        if digits.startswith(b"0") or too_long or int(digits) > LARGEST_LABEL:
+        if not 1 <= len(digits) <= len(str(LARGEST_LABEL)) or int(digits) > LARGEST_LABEL:
             self.refuse(BAD_LABEL, start)
         if int(digits) in labels_so_far:
             self.refuse(REPEATED_LABEL, start)

@@ -206,12 +206,22 @@ class Refusals(unittest.TestCase):
     def test_labels(self):
         """Refusals 2 and 3; 2 goes before 3; a run may end with the text."""
         self.check(form, {
-            b"0;": (2, 0, 0), b"01;": (2, 0, 0), b"65;": (2, 0, 0), b"100;": (2, 0, 0),
+            b"0;": (2, 0, 0), b"000;": (2, 0, 0), b"065;": (2, 0, 0), b"65;": (2, 0, 0), b"100;": (2, 0, 0),
             b"257;": (2, 0, 0), b"(1,18446744073709551618);": (2, 0, 3),
-            b"(1,01);": (2, 0, 3), b"(1,65": (2, 0, 3), b"(1,1": (3, 0, 3), b"(1,6": (1, 0, 4),
+            b"(01,1);": (3, 0, 4), b"(1,065": (2, 0, 3), b"(1,65": (2, 0, 3), b"(1,1": (3, 0, 3), b"(1,6": (1, 0, 4),
             b"(1,1x": (3, 0, 3), b"(1,65x": (2, 0, 3), b"(1,10);": b"(1,10);", b"(12,2": (1, 0, 5),
             b"(1," + b"9" * 60000 + b");": (2, 0, 3), b"0" * 65535: (2, 0, 0),
+            b"007;": b"7;", b"(010,2);": b"(2,10);", b"0" * 60000 + b"7;": b"7;", b"(1,0 2);": (2, 0, 3),
         })
+
+    def test_zeros_before_labels(self):
+        """A text with zeros put before its labels has the same canonical text."""
+        rng = random.Random(4)
+        for _ in range(300):
+            trees = generate.usual_table(rng)
+            tokens = generate.table_tokens(trees)
+            padded = [b"0" * rng.randrange(4) + token if token.isdigit() else token for token in tokens]
+            self.assertEqual(table(b"".join(padded)), table(b"".join(tokens)))
 
     def test_labels_of_trees_are_apart(self):
         """A label may come again in the next tree."""
@@ -555,7 +565,7 @@ class Generator(unittest.TestCase):
             "damaged-label": b"refused 2 ", "repeated-label": b"refused 3 ", "too-deep": b"refused 4 ",
             "other-labels": b"refused 5 ", "too-many": b"refused 6 ", "deep-comb": b"trees ",
             "random-table": b"trees ", "chain": b"trees ", "copies": b"trees ", "crowd": b"trees ",
-            "interchanges": b"trees ",
+            "interchanges": b"trees ", "zeros": b"trees ",
         }
         refused = set()
         for position, kind, text in generate.cases(5, 800):

@@ -84,6 +84,11 @@ refuses 'tree 2 has "Homo_sapiens"; taxa have to be numbers, as the translate bl
 sed 's/3 gorilla/4 gorilla/' "$here/beast1.trees" | file untranslated
 refuses 'tree 1 has 3, which the translate block does not have' "$work/untranslated"
 refuses '1 is human here, and Homo_sapiens before' "$here/mrbayes.t" "$here/beast1.trees"
+sed 's/\([(,]\)\([0-9]\)/\10\2/g' "$here/newick.txt" | file padded
+gives "$here/newick.sheet" "$work/padded"
+sed 's/1 human/01 human/' "$here/beast1.trees" | file padded_number
+gives "$here/beast1.sheet" "$work/padded_number"
+refuses '01 is human here, and Homo_sapiens before' "$here/mrbayes.t" "$work/padded_number"
 printf '(1,2);\n(1,2,3);\n' | file three
 refuses 'tree 2 is not binary' "$work/three"
 echo '((1,2)95:0.1,3);' | file support

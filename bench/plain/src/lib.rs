@@ -33,7 +33,7 @@ pub const LARGEST_LABEL: u8 = 64;
 
 /// A byte that cannot stand there, or the text ends too soon.
 pub const BAD_BYTE: u8 = 1;
-/// A label with a leading zero or out of range.
+/// A label out of range.
 pub const BAD_LABEL: u8 = 2;
 /// A label already in this tree.
 pub const REPEATED_LABEL: u8 = 3;

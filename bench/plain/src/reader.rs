@@ -94,8 +94,7 @@ impl<'a> Reader<'a> {
                 .saturating_add(u32::from(digit - b'0'));
             self.place += 1;
         }
-        // A run that begins with 0 is the number 0 or has a leading zero.
-        if self.text[start] == b'0' || value > u32::from(LARGEST_LABEL) {
+        if value == 0 || value > u32::from(LARGEST_LABEL) {
             return Err(self.refusal_at(BAD_LABEL, start));
         }
         let bit = 1 << (value - 1);

@@ -138,7 +138,7 @@ pub struct Refusal {
 impl Refusal {
     /// A byte that cannot stand there, or the text ends too soon.
     pub const WRONG_BYTE: u8 = 1;
-    /// A label with a leading zero or not 1 to 64; the place is its first digit.
+    /// A label that is not 1 to 64; the place is its first digit.
     pub const BAD_LABEL: u8 = 2;
     /// A label that is already in this tree; the place is its first digit.
     pub const LABEL_AGAIN: u8 = 3;
@@ -160,7 +160,7 @@ impl fmt::Display for Refusal {
     fn fmt(&self, f: &mut fmt::Formatter<'_>) -> fmt::Result {
         let reason = match self.number {
             Refusal::WRONG_BYTE => "a byte that cannot stand there, or the text ends too soon",
-            Refusal::BAD_LABEL => "a label with a leading zero or not 1 to 64",
+            Refusal::BAD_LABEL => "a label that is not 1 to 64",
             Refusal::LABEL_AGAIN => "a label that is already in this tree",
             Refusal::TOO_DEEP => "a bracket that opens while 63 are open",
             Refusal::LABELS_DIFFER => "labels other than the first tree's",

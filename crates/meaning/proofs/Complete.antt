@@ -19,7 +19,7 @@ use Rattle.meaning.proofs.Same.{good-first, good-second}
 use Rattle.meaning.proofs.Labels.{labels-in}
 use Rattle.meaning.proofs.Lists.{member-append, member-in}
 use Rattle.meaning.proofs.Scan.{digit-no-blank, blank-no-digit}
-use Rattle.meaning.proofs.Ways.{token-yes, label-new, node-label, node-fork}
+use Rattle.meaning.proofs.Ways.{token-yes, label-allowed, label-new, node-label, node-fork}
 
 -- what is left of a text behind x, and the byte at a place
 pub at-next : (s : List ℕ) (p : ℕ) (x y : List ℕ) → drop p s ≡ x ++ y → drop (p + length x) s ≡ y
@@ -103,7 +103,7 @@ module _ {v : ℕ} {y : List ℕ} (R : LabelRun v y) (w : List ℕ) (blank : All
   label-read : (room : ℕ) (seen : List ℕ) → New (leaf v) seen → readNode room s p seen ≡ got (leaf v) (p + length (w ++ y))
   label-read room seen N =
       node-label s p seen room (ap isDigit label-byte ∙ R .begins)
-      ∙ label-new s (skip s p) seen (rw (label-byte, label-value) (R .allowed)) (rw label-value (N v tip))
+      ∙ label-new s (skip s p) seen (rw label-value (label-allowed v (R .allowed .0) (R .allowed .1))) (rw label-value (N v tip))
       ∙ rw (label-value, label-end)
 
 -- a fork of o x c y z, where x and y are read as nodes

@@ -39,3 +39,4 @@ pub mod TableText
 pub mod Text
 pub mod Unlinked
 pub mod Ways
+pub mod Zeros

@@ -9,7 +9,7 @@ use borrow.Author.Tests.{le-ltb}
 use lib.ListN.{length}
 use Rattle.meaning.specs.Limits.{textBytes, formBytes, forestBytes, maxTrees, tableBytes, pairNumbers, sheetBytes}
 use Rattle.meaning.specs.Tree.{Tree, leaves}
-use Rattle.meaning.specs.Reading.{got, refused, byteAt, value, badLabel, labelAt, treeAt, readTree, sameLabels, tableFrom}
+use Rattle.meaning.specs.Reading.{got, refused, value, badLabel, labelAt, treeAt, readTree, sameLabels, tableFrom}
 use Rattle.meaning.specs.Prefix.{TooDeepAt}
 use Rattle.meaning.specs.Answer.{Answer, accepted, refusal, Outcome, TableMemory, GraphMemory, textOf, onward, conclude}
 use Rattle.meaning.specs.Calls.{answered, formSlices, formRead, hasCut, cutSlices, cutRead, beside, pairRead, tableRead, tableSlices, tableOf, tableCall, graphSlices, graphRead}
@@ -80,7 +80,7 @@ module _ (s out : List ℕ) (room : forestBytes ≤ length out) (fits : length s
   nine t p e h = cut-reads ∙ rw (e, le-ltb c (2 * leaves t - 2) h)
 
 -- for one label, 2 goes before 3
-pub two-before-three : (s : List ℕ) (q : ℕ) (seen : List ℕ) → badLabel (byteAt s q) (value s q) ≡ true → labelAt s q seen ≡ refused 2 q
+pub two-before-three : (s : List ℕ) (q : ℕ) (seen : List ℕ) → badLabel (value s q) ≡ true → labelAt s q seen ≡ refused 2 q
 two-before-three s q seen h = label-bad s q seen h
 
 -- a bracket that opens where allowed while 63 are open is 4, whatever follows

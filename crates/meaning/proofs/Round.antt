@@ -16,7 +16,6 @@ use Rattle.meaning.proofs.Canon.{canon-≈, canon-in, canon-good}
 use Rattle.meaning.proofs.Same.{≈-sym, ≈-in}
 use Rattle.meaning.proofs.Digits.{digits-one, digits-two}
 use Rattle.meaning.proofs.Length.{leaves-64}
-use Rattle.meaning.proofs.Ways.{label-allowed}
 use Rattle.meaning.proofs.Complete.{read-complete}
 use Rattle.meaning.proofs.TableText.{table-complete}
 
@@ -36,13 +35,13 @@ value-two n h = rw (digit-is (n / 10) (omega arith), digit-is (n % 10) (omega ar
 -- one digit and two are a label
 run-one : (n : ℕ) → 1 ≤ n → n ≤ 9 → LabelRun n ((48 + n) ∷ [])
 unfolding All
-run-one n l h = let d = digit-is n h in record { digit = (d, tt); begins = d; allowed = label-allowed _ n (λ z. omega arith) l (omega arith); writes = value-one n h }
+run-one n l h = let d = digit-is n h in record { digit = (d, tt); begins = d; writes = value-one n h; allowed = (l, omega arith) }
 
 run-two : (n : ℕ) → 10 ≤ n → n ≤ maxLabel → LabelRun n ((48 + n / 10) ∷ (48 + n % 10) ∷ [])
 unfolding All
 run-two n l h =
     let d = digit-is (n / 10) (omega arith) in
-    record { digit = (d, (digit-is (n % 10) (omega arith), tt)); begins = d; allowed = label-allowed _ n (λ z. omega arith) (omega arith) h; writes = value-two n (omega arith) }
+    record { digit = (d, (digit-is (n % 10) (omega arith), tt)); begins = d; writes = value-two n (omega arith); allowed = (omega arith, h) }
 
 -- the digits of a label are a label
 pub digits-run : (n : ℕ) → 1 ≤ n → n ≤ maxLabel → LabelRun n (digits n)

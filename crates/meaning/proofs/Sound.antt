@@ -119,8 +119,8 @@ module _ (s : List ℕ) (q : ℕ) (h : isDigit (byteAt s q) ≡ true) where
   unfolding value
   ds-value = sym (ap (valueAfter 0) ds-here ∙ value-all 0 ds rest (run-is isDigit s q) ds-next)
 
-  label-run : badLabel (byteAt s q) (value s q) ≡ false → LabelRun (value s q) ds
-  label-run allowed = record { digit = run-is isDigit s q; begins = ap isDigit (sym ds-first) ∙ h; allowed = rw (← ds-first) allowed; writes = ds-value }
+  label-run : badLabel (value s q) ≡ false → LabelRun (value s q) ds
+  label-run allowed = record { digit = run-is isDigit s q; begins = ap isDigit (sym ds-first) ∙ h; writes = ds-value; allowed = label-range (value s q) allowed }
 
 -- a label of 1 to 64 that was not seen makes a leaf
 pub leaf-good : {v : ℕ} → 1 ≤ v → v ≤ maxLabel → Good (leaf v)
@@ -139,7 +139,7 @@ label-sound room s p seen h = label-gives s (skip s p) seen (λ b. tt) (λ a m. 
   derives = is-label (run isBlank s p) (run-is isBlank s p) (label-run s (skip s p) h allowed);
   stands = then-from (run-from isBlank s p) (run-from isDigit s (skip s p));
   deep = omega arith;
-  good = let r = label-range _ _ allowed in leaf-good (r .0) (r .1);
+  good = let r = label-range _ allowed in leaf-good (r .0) (r .1);
   new = leaf-new seen m;
   longest = λ v e. past-byte isDigit s (skip s p) refl;
 })

@@ -153,7 +153,7 @@ module _ (s s′ : List ℕ) where
   -- a label is read alike where its run is the same
   label-same : (q : ℕ) (seen : List ℕ) → isDigit (byteAt s q) ≡ true → Agree s s′ (runEnd s q) → labelAt s′ q seen ≡ labelAt s q seen
   unfolding labelAt
-  label-same q seen d A = rw (value-same q d A, run-end-same q d A, ← (same-byte q (run-some q d A) (A .same)))
+  label-same q seen d A = rw (value-same q d A, run-end-same q d A)
 
   label-follows : (room p : ℕ) (seen : List ℕ) → isDigit (byteAt s (skip s p)) ≡ true → Follows p (labelAt s (skip s p) seen) (readNode room s′ p seen)
   unfolding isDigit

@@ -1,7 +1,7 @@
 -- The ways through a token, a label, a node and a table; and what can be said of an answer from what can be said of its parts.
 -- Assumes nothing.
 use mathlib.Core.Path.{_≡_, refl}
-use mathlib.Core.Bool.{true, false, cond, _||_}
+use mathlib.Core.Bool.{true, false, cond}
 use mathlib.Core.List.{List, [], _∷_, _++_}
 use Prim.Native.Nat.{ℕ, zero, suc, _+_, _-_, _<_, _≤_}
 use native.Mathlib.Numerals.{sub-one}
@@ -30,24 +30,22 @@ module _ {A : Type 0} (b : ℕ) (s : List ℕ) (p : ℕ) (next : ℕ → Read A)
   token-no h = rw (ne-eqb (byteAt s (skip s p)) b h)
 
 -- the rule for labels: one that it allows is 1 to 64
-pub label-range : (b v : ℕ) → badLabel b v ≡ false → (1 ≤ v) × (v ≤ maxLabel)
+pub label-range : (v : ℕ) → badLabel v ≡ false → (1 ≤ v) × (v ≤ maxLabel)
 unfolding badLabel
-label-range b v e =
-    let r = or-right (eqb b 48) (ltb v 1 || ltb maxLabel v) e in
-    (ltb-false v 1 (or-left (ltb v 1) (ltb maxLabel v) r), ltb-false maxLabel v (or-right (ltb v 1) (ltb maxLabel v) r))
+label-range v e = (ltb-false v 1 (or-left (ltb v 1) (ltb maxLabel v) e), ltb-false maxLabel v (or-right (ltb v 1) (ltb maxLabel v) e))
 
--- and one of 1 to 64 that begins with no zero is allowed
-pub label-allowed : (b v : ℕ) → (b ≡ 48 → ⊥) → 1 ≤ v → v ≤ maxLabel → badLabel b v ≡ false
+-- and one of 1 to 64 is allowed
+pub label-allowed : (v : ℕ) → 1 ≤ v → v ≤ maxLabel → badLabel v ≡ false
 unfolding badLabel
-label-allowed b v f l h = rw (ne-eqb b 48 f, le-ltb v 1 l, le-ltb maxLabel v h)
+label-allowed v l h = rw (le-ltb v 1 l, le-ltb maxLabel v h)
 
 -- the ways through a label
 module _ (s : List ℕ) (q : ℕ) (seen : List ℕ) where
-  pub label-bad : badLabel (byteAt s q) (value s q) ≡ true → labelAt s q seen ≡ refused 2 q
+  pub label-bad : badLabel (value s q) ≡ true → labelAt s q seen ≡ refused 2 q
   unfolding labelAt
   label-bad h = rw h
 
-  module _ (allowed : badLabel (byteAt s q) (value s q) ≡ false) where
+  module _ (allowed : badLabel (value s q) ≡ false) where
     pub label-again : member (value s q) seen ≡ true → labelAt s q seen ≡ refused 3 q
     unfolding labelAt
     label-again m = rw (allowed, m)
@@ -124,12 +122,12 @@ then-gives next (refuses h) f = refuses h
 
 module _ {P : Tree → ℕ → Type 0} {Q : ℕ → ℕ → Type 0} (s : List ℕ) where
   -- a label: line 2, line 3, or a leaf
-  pub label-gives : (q : ℕ) (seen : List ℕ) → (badLabel (byteAt s q) (value s q) ≡ true → Q 2 q) → (badLabel (byteAt s q) (value s q) ≡ false → member (value s q) seen ≡ true → Q 3 q)
-      → (badLabel (byteAt s q) (value s q) ≡ false → member (value s q) seen ≡ false → P (leaf (value s q)) (runEnd s q)) → Gives P Q (labelAt s q seen)
+  pub label-gives : (q : ℕ) (seen : List ℕ) → (badLabel (value s q) ≡ true → Q 2 q) → (badLabel (value s q) ≡ false → member (value s q) seen ≡ true → Q 3 q)
+      → (badLabel (value s q) ≡ false → member (value s q) seen ≡ false → P (leaf (value s q)) (runEnd s q)) → Gives P Q (labelAt s q seen)
   unfolding labelAt
   label-gives q seen bad again new =
       let fits : Read Tree = got (leaf (value s q)) (runEnd s q) in
-      cases (λ d. Gives P Q (cond d (refused 2 q) (cond (member (value s q) seen) (refused 3 q) fits))) (badLabel (byteAt s q) (value s q)) (λ e. refuses (bad e))
+      cases (λ d. Gives P Q (cond d (refused 2 q) (cond (member (value s q) seen) (refused 3 q) fits))) (badLabel (value s q)) (λ e. refuses (bad e))
       (λ e. cases (λ d. Gives P Q (cond d (refused 3 q) fits)) (member (value s q) seen) (λ f. refuses (again e f)) (λ f. reads (new e f)))
 
   -- a node: line 1, a label, or what a bracket gives

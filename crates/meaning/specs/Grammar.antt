@@ -1,13 +1,13 @@
 -- The tree text of document 01 as a grammar: which texts are a tree's or a table's, with no word on how they are read. In words: docs/RULES.md, 'Tree text'.
 -- Assumes nothing.
 use mathlib.Core.Path.{_≡_}
-use mathlib.Core.Bool.{Bool, true, false}
+use mathlib.Core.Bool.{Bool, true}
 use mathlib.Core.List.{List, [], _∷_, _++_}
 use Prim.Native.Nat.{ℕ, suc, max, _≤_}
 use lib.ListN.{length, getD}
-use Rattle.meaning.specs.Limits.{maxOpen, maxTrees}
+use Rattle.meaning.specs.Limits.{maxLabel, maxOpen, maxTrees}
 use Rattle.meaning.specs.Tree.{Tree, leaf, fork, Good, SameClade}
-use Rattle.meaning.specs.Reading.{isBlank, isDigit, valueAfter, badLabel}
+use Rattle.meaning.specs.Reading.{isBlank, isDigit, valueAfter}
 
 -- every byte passes the test
 unfoldable pub All : (ℕ → Bool) → List ℕ → Type 0
@@ -18,12 +18,12 @@ All test (b ∷ x) = (test b ≡ true) × All test x
 pub data TokenText (b : ℕ) : List ℕ → Type 0 where
   behind : (x : List ℕ) → All isBlank x → TokenText b (x ++ (b ∷ []))
 
--- a label is a run of decimal digits: no leading zero, value 1 to 64
+-- a label is a run of decimal digits whose value is 1 to 64
 pub record LabelRun (v : ℕ) (y : List ℕ) : Type 0 where
   pub digit : All isDigit y
   pub begins : isDigit (getD y 0 0) ≡ true
-  pub allowed : badLabel (getD y 0 0) v ≡ false
   pub writes : valueAfter 0 y ≡ v
+  pub allowed : (1 ≤ v) × (v ≤ maxLabel)
 
 -- a node is a label, before which blanks may stand, or `(` node `,` node `)`
 pub data NodeText : Tree → List ℕ → Type 0 where

@@ -16,3 +16,4 @@ pub mod Refusals
 pub mod Samples
 pub mod Sheet
 pub mod Tree
+pub mod Zeros

@@ -79,13 +79,13 @@ pub data WrongAt (Text : List ℕ → Type 0) (s : List ℕ) (q : ℕ) : Type 0 
   too-soon : q ≡ length s → (Text s → ⊥) → WrongAt Text s q
   wrong-byte : q < length s → isBlank (byteAt s q) ≡ false → ((w : List ℕ) → Text (take (q + 1) s ++ w) → ⊥) → WrongAt Text s q
 
--- line 2, in the tree from p on: a label begins at q that has a leading zero or is not 1 to 64
+-- line 2, in the tree from p on: a label begins at q whose value is not 1 to 64
 pub record BadLabelAt (s : List ℕ) (p q : ℕ) : Type 0 where
   pub k : ℕ
   pub seen : List ℕ
   pub node : AtNode s p q k seen
   pub digit : isDigit (byteAt s q) ≡ true
-  pub bad : badLabel (byteAt s q) (value s q) ≡ true
+  pub bad : badLabel (value s q) ≡ true
 
 -- line 3: a label begins at q that is allowed and already in this tree
 pub record LabelAgainAt (s : List ℕ) (p q : ℕ) : Type 0 where
@@ -93,7 +93,7 @@ pub record LabelAgainAt (s : List ℕ) (p q : ℕ) : Type 0 where
   pub seen : List ℕ
   pub node : AtNode s p q k seen
   pub digit : isDigit (byteAt s q) ≡ true
-  pub allowed : badLabel (byteAt s q) (value s q) ≡ false
+  pub allowed : badLabel (value s q) ≡ false
   pub again : member (value s q) seen ≡ true
 
 -- line 4: a bracket opens at q, where a node may begin while 63 are open

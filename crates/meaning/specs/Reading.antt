@@ -66,14 +66,14 @@ orWrong false q next = refused 1 q
 unfoldable pub token : {A : Type 0} → ℕ → List ℕ → ℕ → (ℕ → Read A) → Read A
 token b s p next = orWrong (eqb (byteAt s (skip s p)) b) (skip s p) (λ q. next (q + 1))
 
--- a label that begins with the byte b and has the value v breaks the rule: a leading zero, or not 1 to 64
-unfoldable pub badLabel : ℕ → ℕ → Bool
-badLabel b v = eqb b 48 || (ltb v 1 || ltb maxLabel v)
+-- a label of the value v breaks the rule: it is not 1 to 64
+unfoldable pub badLabel : ℕ → Bool
+badLabel v = ltb v 1 || ltb maxLabel v
 
 -- the label whose first digit is at q, where `seen` are the labels before it in this tree: line 2, then line 3
 unfoldable pub labelAt : List ℕ → ℕ → List ℕ → Read Tree
 labelAt s q seen =
-    cond (badLabel (byteAt s q) (value s q)) (refused 2 q)
+    cond (badLabel (value s q)) (refused 2 q)
     (cond (member (value s q) seen) (refused 3 q)
     (got (leaf (value s q)) (runEnd s q)))
 

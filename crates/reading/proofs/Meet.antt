@@ -57,14 +57,14 @@ module _ (b : ℕ) (s : List ℕ) (p : ℕ) where
 
 -- ---- a label that the rule allows, once it was looked for
 pub record Checked (s : List ℕ) (q : ℕ) (node : List ℕ) (at v : ℕ) (found : Bool) : Type 0 where
-  pub allowed : badLabel (byteAt s q) (value s q) ≡ false
+  pub allowed : badLabel (value s q) ≡ false
   pub same : v ≡ value s q
   pub held : member (value s q) (seen node at) ≡ found
 
 pub checked : (s : List ℕ) (q : ℕ) (node : List ℕ) (at v : ℕ) (found : Bool)
-    → badLabel (byteAt s q) (value s q) ≡ false → v ≡ min tooLarge (value s q) → found ≡ member v (take at node) → Checked s q node at v found
+    → badLabel (value s q) ≡ false → v ≡ min tooLarge (value s q) → found ≡ member v (take at node) → Checked s q node at v found
 checked s q node at v found f e m =
-    let (l, h) = label-range _ _ f in
+    let (l, h) = label-range _ f in
     let z : v ≡ value s q = omega arith in
     record { allowed = f; same = z; held = rw (← z) (sym (m ∙ member-labels v (take at node) (omega arith) (omega arith))) }
 
@@ -73,7 +73,7 @@ module _ {s : List ℕ} {q : ℕ} {node : List ℕ} {at v : ℕ} (k : Checked s 
   leaf-good = record { distinct = tt; small = λ l i. in-leaf i }
     where
       in-leaf : {l : ℕ} → In l (leaf (value s q)) → (1 ≤ l) × (l ≤ 64)
-      in-leaf tip = label-range _ _ (k .allowed)
+      in-leaf tip = label-range _ (k .allowed)
 
   leaf-new : New (leaf (value s q)) (seen node at)
   leaf-new l tip = k .held

@@ -141,13 +141,10 @@ pub fn refuse(number: u8, place: usize) -> Step
     })
 }
 
-// Whether a label breaks the rule, by its first byte and its value, which may be held down as in `Run`.
-fn bad_label(b: u8, v: usize) -> bool
-    ensures { λ r. ⌜ ((w : ℕ) → v ≡ min tooLarge w → r ≡ badLabel b w) ⌝ }
+// Whether a label breaks the rule, by its value, which may be held down as in `Run`.
+fn bad_label(v: usize) -> bool
+    ensures { λ r. ⌜ ((w : ℕ) → v ≡ min tooLarge w → r ≡ badLabel w) ⌝ }
 {
-    if b == b'0' {
-        return true;
-    }
     if v < 1 {
         return true;
     }
@@ -161,7 +158,7 @@ fn read_label(s: &[u8], q: usize, node: &mut [u8], at: usize) -> Step
 {
     let run = digit_run(s, q);
     let v = run.value;
-    if bad_label(byte_at(s, q), v) {
+    if bad_label(v) {
         return refuse(Refusal::BAD_LABEL, q);
     }
     if lent::contains(node, at, v) {

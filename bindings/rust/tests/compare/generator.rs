@@ -181,10 +181,12 @@ fn token(random: &mut Random, blanks: usize, token: &[u8], out: &mut Vec<u8>) {
 const BYTES: &[u8] = b"(((),,,);;;  \t\r\n00123456789x[-\0\x0b\xff";
 
 /// Digits that are labels, or not quite.
-const LABELS: [&[u8]; 10] = [
+const LABELS: [&[u8]; 12] = [
     b"0",
     b"00",
     b"01",
+    b"007",
+    b"0000000000000000000064",
     b"1",
     b"64",
     b"65",

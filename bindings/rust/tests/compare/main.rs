@@ -55,7 +55,7 @@ fn every_short_text() {
         compare.pair(text, b"(2,1);");
         compare.pair(b"1;", text);
     }
-    let least = [(0, 100), (1, 100_000), (2, 30_000), (3, 50), (5, 100)];
+    let least = [(0, 100), (1, 100_000), (2, 20_000), (3, 50), (5, 100)];
     compare.met("every short text", &least);
 }
 

@@ -5,7 +5,7 @@ use Prim.Native.Nat.{ℕ, _≤_, min}
 use native.Mathlib.Decide.{decLe}
 use native.Mathlib.Omega.{arith}
 use borrow.Author.Needs.{needs}
-use borrow.Author.Tests.{eq-eqb, ne-eqb, lt-ltb, le-ltb}
+use borrow.Author.Tests.{lt-ltb, le-ltb}
 use lib.Dec.{ltb}
 use Rattle.meaning.specs.Limits.{maxLabel}
 use Rattle.meaning.specs.Reading.{badLabel}
@@ -23,18 +23,14 @@ held-down most v w e h = by (decLe w maxLabel)
 
 returns : tie.Need-returns
 unfolding badLabel
-returns c w e = rw (eq-eqb _ 48 (c .if1 .taken))
-
-returns-2 : tie.Need-returns-2
-unfolding badLabel
-returns-2 c w e = rw (ne-eqb _ 48 (c .before .if1 .left), lt-ltb w 1 (omega (arith, c .if2 .taken)))
+returns c w e = rw (lt-ltb w 1 (omega (arith, c .if1 .taken)))
 
 wide-requires : tie.Need-wide-requires
 wide-requires c κs = search needs
 
-returns-3 : tie.Need-returns-3
+returns-2 : tie.Need-returns-2
 unfolding badLabel
-returns-3 c w e = rw (ne-eqb _ 48 (c .before .before .if1 .left), le-ltb w 1 (omega (arith, c .before .if2 .left))) (held-down _ _ w (c .wide .ensures) e)
+returns-2 c w e = rw (le-ltb w 1 (omega (arith, c .before .if1 .left))) (held-down _ _ w (c .wide .ensures) e)
 
 pub bad-label-spec : {M : Type 1} → statement M
-bad-label-spec = tie.close (tie.spec returns returns-2 wide-requires returns-3)
+bad-label-spec = tie.close (tie.spec returns wide-requires returns-2)

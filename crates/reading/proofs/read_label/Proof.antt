@@ -5,7 +5,7 @@ use mathlib.Core.Path.{_≡_, refl, sym, ap, subst, _∙_}
 use Prim.Native.Nat.{ℕ, _+_}
 use native.Mathlib.Omega.{arith}
 use borrow.Author.Needs.{needs}
-use Rattle.meaning.specs.Reading.{byteAt, value, badLabel}
+use Rattle.meaning.specs.Reading.{value, badLabel}
 use Rattle.meaning.proofs.Ways.{label-bad, label-again}
 use Rattle.reading.specs.Paper.{goesOn}
 use Rattle.reading.proofs.Draft.{draft-in}
@@ -16,9 +16,6 @@ use Rattle.reading.proofs.read_label.Tie as tie
 digit-run-requires : tie.Need-digit-run-requires
 digit-run-requires c κs = search needs
 
-byte-at-requires : tie.Need-byte-at-requires
-byte-at-requires c κs = search needs
-
 bad-label-requires : tie.Need-bad-label-requires
 bad-label-requires c κs = search needs
 
@@ -27,14 +24,11 @@ refuse-requires c κs = search needs
 
 -- the entry, from where the label was tested
 abbrev start : (c : tie.After-bad-label) → tie.Start
-start c = c .before .before .before .before .before
+start c = c .before .before .before .before
 
 -- the answer is that of the rule
-abbrev rule : (c : tie.After-bad-label) → ℕ → Bool
-rule c b = badLabel b (value (start c .args .s .now) (start c .args .q))
-
-tested : (c : tie.After-bad-label) → c .bad-label .result ≡ rule c (byteAt (start c .args .s .now) (start c .args .q))
-tested c = c .bad-label .ensures _ (c .before .before .digit-run .ensures .1) ∙ ap (rule c) (c .before .byte-at .ensures)
+tested : (c : tie.After-bad-label) → c .bad-label .result ≡ badLabel (value (start c .args .s .now) (start c .args .q))
+tested c = c .bad-label .ensures _ (c .before .digit-run .ensures .1)
 
 returns : tie.Need-returns
 returns c = meets-refused (label-bad _ _ _ (sym (tested (c .before .before)) ∙ c .before .if1 .taken)) (c .refuse .ensures) refl
@@ -43,13 +37,13 @@ returns c = meets-refused (label-bad _ _ _ (sym (tested (c .before .before)) ∙
 abbrev Label : tie.After-bad-label → Bool → Type 0
 Label d found =
     let a = start d .args in
-    Checked (a .s .now) (a .q) (a .node .now) (a .at) (d .before .before .digit-run .result .value) found
+    Checked (a .s .now) (a .q) (a .node .now) (a .at) (d .before .digit-run .result .value) found
 
 abbrev test : (c : tie.After-contains) → tie.After-bad-label
 test c = c .before .before .before
 
 known : (c : tie.After-contains) → Label (test c) (c .contains .result)
-known c = checked _ _ _ _ _ _ (sym (tested (test c)) ∙ c .before .before .if1 .left) (test c .before .before .digit-run .ensures .1) (c .contains .ensures)
+known c = checked _ _ _ _ _ _ (sym (tested (test c)) ∙ c .before .before .if1 .left) (test c .before .digit-run .ensures .1) (c .contains .ensures)
 
 unseen : (c : tie.Else2) → Label (test (c .before)) false
 unseen c = subst (Checked _ _ _ _ _) (c .if2 .left) (known (c .before))
@@ -79,14 +73,13 @@ same-length-2 : tie.Need-same-length-2
 same-length-2 c = search needs
 
 returns-3 : tie.Need-returns-3
-returns-3 c = let d = test (c .before) in label-got (unseen c) (ap (λ (p : ℕ). goesOn p (start d .args .at + 1)) (d .before .before .digit-run .ensures .0))
+returns-3 c = let d = test (c .before) in label-got (unseen c) (ap (λ (p : ℕ). goesOn p (start d .args .at + 1)) (d .before .digit-run .ensures .0))
 
 pub read-label-spec : {M : Type 1} → statement M
 read-label-spec =
     tie.close
     (tie.spec
     digit-run-requires
-    byte-at-requires
     bad-label-requires
     refuse-requires
     returns
