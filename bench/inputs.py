@@ -17,6 +17,8 @@ Full tables, 160 trees of 64 leaves:
                  three moves of a leaf from the one before
     copies       one topology, with children swapped
     interchange_chain  each tree one random interchange from the one before
+    mixed_chains  a few chains of random moves, each from a random tree, in
+                 random order
 
 Growth, for `unrelated` and `chain`: the first 20, 40 and 80 trees of the full
 table, and 160 trees of 8, 16 and 32 leaves.  The full tables are the last step
@@ -38,6 +40,8 @@ FEWER_LEAVES = (8, 16, 32)
 
 NEAR_COPIES_BASES = 2
 NEAR_COPIES_NEIGHBOURS = 3
+
+MIXED_CHAINS = 8
 
 
 # Trees
@@ -138,11 +142,25 @@ def unrelated(rng, leaves):
     return [random_tree(rng, leaves) for _ in range(TREES)]
 
 
+def chain_of(rng, leaves, length):
+    """So many trees, each one random move from the one before."""
+    trees = [random_tree(rng, leaves)]
+    while len(trees) < length:
+        trees.append(moved(rng, trees[-1]))
+    return trees
+
+
 def chain(rng, leaves):
     """Each tree is one random move from the one before."""
-    trees = [random_tree(rng, leaves)]
-    while len(trees) < TREES:
-        trees.append(moved(rng, trees[-1]))
+    return chain_of(rng, leaves, TREES)
+
+
+def mixed_chains(rng, leaves):
+    """Chains from random trees, all of them equally long, in random order."""
+    trees = []
+    for _ in range(MIXED_CHAINS):
+        trees.extend(chain_of(rng, leaves, TREES // MIXED_CHAINS))
+    rng.shuffle(trees)
     return trees
 
 
@@ -183,6 +201,9 @@ def copies(rng, leaves):
     return [random_tree(rng, leaves)] * TREES
 
 
+FULL_TABLES = (unrelated, chain, near_copies, combs, copies, interchange_chain, mixed_chains)
+
+
 # Texts
 
 
@@ -202,7 +223,7 @@ def lines_of(make, leaves):
 
 def inputs():
     """Yield (name, text) for each input, growing ones from small to large."""
-    full = {make: lines_of(make, LEAVES) for make in (unrelated, chain, near_copies, combs, copies, interchange_chain)}
+    full = {make: lines_of(make, LEAVES) for make in FULL_TABLES}
     for make, lines in full.items():
         yield make.__name__, "".join(lines)
     for make in (unrelated, chain):

@@ -1,16 +1,17 @@
 #!/usr/bin/env python3
 """Compare the speed of a pair lister with the plain program's.
 
-    run.py [OUR_PROGRAM] [--interchanges] [--repeat N]
+    run.py [OUR_PROGRAM] [--interchanges | --islands] [--repeat N]
 
 OUR_PROGRAM is the path of an executable that reads a table of trees from
 standard input and prints the sheet; if it is left out, the pair lister is built
 for this machine by tools/native.sh.  With --interchanges it is the program of
 tests/independent/interchanges.c, which bindings/test.sh builds, and both print
-the graph of interchanges.  The plain program is built first.  Both
-are run on each input of inputs.py.  The first run of each is for comparing the
-outputs; if they differ, or a table is refused, or a program is ended by a
-signal, the exit status is 1.
+the graph of interchanges.  With --islands it is the islands program, which
+tools/native.sh builds, and both print a line for each island.  The plain
+program is built first.  Both are run on each input of inputs.py.  The first run
+of each is for comparing the outputs; if they differ, or a table is refused, or
+a program is ended by a signal, the exit status is 1.
 
 The time of an input is the wall time of the whole process, the best of N runs,
 less the same for an empty input, which is what starting the process costs.
@@ -24,6 +25,7 @@ import subprocess
 import sys
 import tempfile
 import time
+from typing import Callable, NamedTuple, Optional, Tuple
 
 import inputs
 
@@ -36,7 +38,7 @@ EMPTY_REPEAT_FACTOR = 20
 # Below this a time is mostly the noise of starting the process.
 SHORTEST_FOR_RATIO_MS = 0.05
 
-ROW = "%-17s %6s %7s %6s %10s %10s %11s"
+ROW = "%-17s %6s %7s %7s %10s %10s %11s"
 
 
 class Failed(Exception):
@@ -104,15 +106,43 @@ def compared_output(commands, path):
     return ours
 
 
-def size_of(path, output):
-    """The numbers of trees, leaves and pairs."""
+def trees_and_pairs(output):
+    """Their numbers, from the first line; None if that is another line."""
     first_line = re.match(rb"trees (\d+) pairs (\d+)\n", output)
-    if not first_line:
+    return (int(first_line[1]), int(first_line[2])) if first_line else None
+
+
+def trees_and_islands(output):
+    """Their numbers, from a line for each island; None if there are none, or
+    other lines."""
+    if not re.fullmatch(rb"(island \d+ \d+\n)+", output):
+        return None
+    sizes = re.findall(rb" (\d+)\n", output)
+    return sum(map(int, sizes)), len(sizes)
+
+
+class Sheet(NamedTuple):
+    """What both programs print."""
+
+    option: Optional[str]  # the plain program's, the same as that of this script
+    counted: str  # what is counted besides trees
+    counts: Callable[[bytes], Optional[Tuple[int, int]]]
+
+
+PAIRS = Sheet(None, "pairs", trees_and_pairs)
+INTERCHANGES = Sheet("--interchanges", "pairs", trees_and_pairs)
+ISLANDS = Sheet("--islands", "islands", trees_and_islands)
+
+
+def size_of(path, sheet, output):
+    """The numbers of trees, leaves and pairs or islands."""
+    counts = sheet.counts(output)
+    if not counts:
         raise Failed("%s is not accepted: %r" % (os.path.basename(path), output[:80]))
     with open(path, "rb") as file:
         first_tree = file.read().partition(b";")[0]
     leaves = len(re.findall(rb"\d+", first_tree))
-    return int(first_line[1]), leaves, int(first_line[2])
+    return counts[0], leaves, counts[1]
 
 
 def ratio_text(ours, plain):
@@ -143,8 +173,9 @@ def rustc_version():
     return done.stdout.decode().strip()
 
 
-def run(ours, options, repeat, directory):
-    """Build, measure and print the table; `options` are the plain program's."""
+def run(ours, sheet, repeat, directory):
+    """Build, measure and print the table."""
+    options = [sheet.option] if sheet.option else []
     commands = ([ours or build_ours(directory)], [build_plain()] + options)
     print("CPU: %s, %d cores" % (cpu_model(), os.cpu_count() or 0))
     print(rustc_version())
@@ -157,9 +188,9 @@ def run(ours, options, repeat, directory):
     print("best of %d; process start (subtracted): ours %.2f ms, plain %.2f ms\n"
           % (repeat, start[0], start[1]))
 
-    print(ROW % ("input", "trees", "leaves", "pairs", "ours ms", "plain ms", "ours/plain"))
+    print(ROW % ("input", "trees", "leaves", sheet.counted, "ours ms", "plain ms", "ours/plain"))
     for name, path in inputs.write_inputs(os.path.join(directory, "inputs")):
-        size = size_of(path, compared_output(commands, path))
+        size = size_of(path, sheet, compared_output(commands, path))
         times = best_times(commands, path, repeat)
         our_time, plain_time = (max(0.0, t - s) for t, s in zip(times, start))
         print(ROW % ((name,) + size + ("%.2f" % our_time, "%.2f" % plain_time,
@@ -179,18 +210,22 @@ def main(arguments):
     parser = argparse.ArgumentParser(description="Compare a pair lister's speed with the plain program's.")
     parser.add_argument("program", metavar="OUR_PROGRAM", nargs="?",
                         help="path of the pair lister; built for this machine if left out")
-    parser.add_argument("--interchanges", action="store_true",
+    others = parser.add_mutually_exclusive_group()
+    others.add_argument("--interchanges", action="store_const", dest="sheet", const=INTERCHANGES,
                         help="OUR_PROGRAM prints the graph of interchanges")
+    others.add_argument("--islands", action="store_const", dest="sheet", const=ISLANDS,
+                        help="OUR_PROGRAM prints a line for each island")
+    parser.set_defaults(sheet=PAIRS)
     parser.add_argument("--repeat", metavar="N", type=positive, default=DEFAULT_REPEAT)
     options = parser.parse_args(arguments)
     program = options.program and os.path.abspath(options.program)
     if program and (not os.access(program, os.X_OK) or os.path.isdir(program)):
         parser.error("not an executable file: %s" % options.program)
-    if options.interchanges and not program:
-        parser.error("--interchanges needs OUR_PROGRAM")
+    if options.sheet.option and not program:
+        parser.error("%s needs OUR_PROGRAM" % options.sheet.option)
     try:
         with tempfile.TemporaryDirectory() as directory:
-            run(program, ["--interchanges"] if options.interchanges else [], options.repeat, directory)
+            run(program, options.sheet, options.repeat, directory)
     except Failed as failed:
         print("failed: %s" % failed, file=sys.stderr)
         return 1

@@ -1,9 +1,9 @@
 /*
  * Norbelath: rooted binary trees as texts, and which of them are one prune and regraft apart.
  *
- * Seven calls over lent memory. They allocate nothing, keep nothing between calls and may be called from several
- * threads at once; the table, graph and interchange calls use about 120 KB of stack, the sheet call about 170 KB. Any
- * bytes may be given as a text: what is not as it should be is refused, with the reason and the place.
+ * Eight calls over lent memory. They allocate nothing, keep nothing between calls and may be called from several
+ * threads at once; the table, graph, interchange and islands calls use up to 120 KB of stack, the sheet call up to
+ * 170 KB. Any bytes may be given as a text: what is not as it should be is refused, with the reason and the place.
  *
  * A text is a pointer and its length in bytes; it needs no byte 0 at its end. A lent slice is a pointer and its length in
  * elements. No pointer is NULL. The slices and numbers that a call may write overlap neither each other nor a text.
@@ -16,7 +16,8 @@
  *   pair            1 for yes, 0 for no          0
  *   table           bytes written                trees
  *   graph,          trees                        pairs
- *   interchanges
+ *   interchanges,
+ *   islands
  *   refused         which text: 0, or 1 for      the place: an offset in that text,
  *                   the pair call's other        its length where it ends too soon
  *
@@ -39,7 +40,8 @@ extern "C" {
 
 /*
  * The least lengths of the lent slices, in elements. A shorter slice is refused, a longer one is used as far as
- * needed. The interchange call has those of the graph call.
+ * needed. The interchange call has those of the graph call; so has the islands call, and NORBELATH_ISLANDS for its
+ * third slice.
  */
 #define NORBELATH_FORM_OUT 309
 #define NORBELATH_CUT_OUT 307
@@ -47,6 +49,7 @@ extern "C" {
 #define NORBELATH_TABLE_ENDS 160
 #define NORBELATH_GRAPH_PAIRS 25440
 #define NORBELATH_GRAPH_COUNTS 160
+#define NORBELATH_ISLANDS 160
 #define NORBELATH_SHEET_OUT 220902
 
 /* Results. The place of a refusal is given behind each; 7, 8 and 9 have place 0. */
@@ -106,6 +109,17 @@ uint8_t norbelath_interchanges(const uint8_t *text, size_t text_len,
                                uint16_t *pairs, size_t pairs_len,
                                uint16_t *counts, size_t counts_len,
                                uint64_t *first, uint64_t *second);
+
+/*
+ * Islands call: the pairs and counts of the graph call, and islands[i], the number of the island of tree i. An island
+ * is a group of trees that chains of those pairs join; its number is the smallest position in it. Copies of a tree are
+ * no pair, so only pairs with other trees put them in one island.
+ */
+uint8_t norbelath_islands(const uint8_t *text, size_t text_len,
+                          uint16_t *pairs, size_t pairs_len,
+                          uint16_t *counts, size_t counts_len,
+                          uint16_t *islands, size_t islands_len,
+                          uint64_t *first, uint64_t *second);
 
 /*
  * Sheet call: what the pair lister prints for a text. A text that is refused has its sheet too, the line `refused N at P`:

@@ -88,6 +88,8 @@ static uint8_t texts[NORBELATH_TABLE_TEXTS];
 static uint32_t ends[NORBELATH_TABLE_ENDS];
 static uint16_t pairs[NORBELATH_GRAPH_PAIRS];
 static uint16_t counts[NORBELATH_GRAPH_COUNTS];
+/* One number more than the islands call asks for. */
+static uint16_t island_of[NORBELATH_ISLANDS + 1];
 
 static struct reply table(const char *text, size_t text_len, size_t texts_len, size_t ends_len)
 {
@@ -107,21 +109,39 @@ static void table_refused(const char *text, size_t text_len, size_t texts_len, s
           "a refusal changed a slice");
 }
 
-/* A call that lists pairs, and its name: the graph call or the interchange call. */
+/* A call that lists pairs, and its name: the graph call, the interchange call or the islands call. */
 struct lister {
     const char *name;
     uint8_t (*call)(const uint8_t *text, size_t text_len, uint16_t *pairs, size_t pairs_len, uint16_t *counts,
                     size_t counts_len, uint64_t *first, uint64_t *second);
 };
 
+/* The islands call, lent enough for the islands, and lent one number too little. */
+static uint8_t enough_islands(const uint8_t *text, size_t text_len, uint16_t *to_pairs, size_t pairs_len,
+                              uint16_t *to_counts, size_t counts_len, uint64_t *first, uint64_t *second)
+{
+    return norbelath_islands(text, text_len, to_pairs, pairs_len, to_counts, counts_len, island_of, NORBELATH_ISLANDS,
+                             first, second);
+}
+
+static uint8_t too_few_islands(const uint8_t *text, size_t text_len, uint16_t *to_pairs, size_t pairs_len,
+                               uint16_t *to_counts, size_t counts_len, uint64_t *first, uint64_t *second)
+{
+    return norbelath_islands(text, text_len, to_pairs, pairs_len, to_counts, counts_len, island_of,
+                             NORBELATH_ISLANDS - 1, first, second);
+}
+
 static const struct lister graph = {"graph", norbelath_graph};
 static const struct lister interchanges = {"interchanges", norbelath_interchanges};
+static const struct lister islands = {"islands", enough_islands};
+static const struct lister short_islands = {"islands", too_few_islands};
 
 static struct reply list(struct lister l, const char *text, size_t text_len, size_t pairs_len, size_t counts_len)
 {
     struct reply r = {99, 99, 99};
     memset(pairs, UNTOUCHED, sizeof pairs);
     memset(counts, UNTOUCHED, sizeof counts);
+    memset(island_of, UNTOUCHED, sizeof island_of);
     r.result = l.call((const uint8_t *)text, text_len, pairs, pairs_len, counts, counts_len, &r.first, &r.second);
     return r;
 }
@@ -131,8 +151,9 @@ static void list_refused(struct lister l, const char *text, size_t text_len, siz
 {
     struct reply r = list(l, text, text_len, pairs_len, counts_len);
     check(same(r, number, 0, place), l.name, text, "another refusal was expected");
-    check(untouched(pairs, 0, sizeof pairs) && untouched(counts, 0, sizeof counts), l.name, text,
-          "a refusal changed a slice");
+    check(untouched(pairs, 0, sizeof pairs) && untouched(counts, 0, sizeof counts) &&
+              untouched(island_of, 0, sizeof island_of),
+          l.name, text, "a refusal changed a slice");
 }
 
 /* The numbers of `expected` are i and then j of each pair, those of `neighbours` are the counts. */
@@ -145,6 +166,15 @@ static void listed(struct lister l, const char *text, const uint16_t *expected, 
     check(memcmp(pairs, expected, pairs_size) == 0 && memcmp(counts, neighbours, counts_size) == 0, l.name, text,
           "other pairs were expected");
     check(untouched(pairs, pairs_size, sizeof pairs) && untouched(counts, counts_size, sizeof counts), l.name, text,
+          "a slice was changed behind what was written");
+}
+
+/* What the last call wrote for the islands of so many trees. */
+static void numbered(const char *text, const uint16_t *expected, size_t number_of_trees)
+{
+    const size_t size = number_of_trees * sizeof island_of[0];
+    check(memcmp(island_of, expected, size) == 0, "islands", text, "other islands were expected");
+    check(untouched(island_of, size, sizeof island_of), "islands", text,
           "a slice was changed behind what was written");
 }
 
@@ -243,7 +273,7 @@ static void tables(void)
     table_refused(text, strlen(text), bytes, numbers - 1, NORBELATH_SHORT_SLICE, 0);
 }
 
-/* What both calls give: of three leaves, two trees that differ are one interchange apart. Copies are no pair. */
+/* What all three calls give: of three leaves, two trees that differ are one interchange apart. Copies are no pair. */
 static void lists(struct lister l)
 {
     const size_t numbers = NORBELATH_GRAPH_PAIRS, trees = NORBELATH_GRAPH_COUNTS;
@@ -265,6 +295,44 @@ static void moves_and_interchanges(void)
     const char *text = "(((1,2),3),4);((1,2),(3,4));(((1,4),2),3);";
     listed(graph, text, (const uint16_t[]){0, 1, 0, 2, 1, 2}, 3, (const uint16_t[]){2, 2, 2}, 3);
     listed(interchanges, text, (const uint16_t[]){0, 1}, 1, (const uint16_t[]){1, 1, 0}, 3);
+}
+
+static void islands_listed(const char *text, const uint16_t *expected, size_t number_of_pairs,
+                           const uint16_t *neighbours, const uint16_t *numbers, size_t number_of_trees)
+{
+    listed(islands, text, expected, number_of_pairs, neighbours, number_of_trees);
+    numbered(text, numbers, number_of_trees);
+}
+
+/*
+ * No island, one, and several that are mixed: two copies alone, two neighbours and a chain of three. Only pairs with
+ * other trees put copies in one island.
+ */
+static void islands_of_trees(void)
+{
+    const char *one = "((2,1),3);\n(3,(2,1));\n(1,(2,3));\n((1,3),2);\n";
+    const char *middle_last = "(((1,2),3),4);(((3,4),1),2);((1,2),(3,4));";
+    const char *mixed = "((((3,4),2),1),5);((((1,2),5),4),3);((((3,4),5),1),2);((((1,2),3),4),5);"
+                        "((((2,5),1),4),3);((((3,4),2),1),5);((((2,3),4),5),1);";
+    const uint16_t zeros[] = {0, 0, 0, 0};
+    islands_listed("", zeros, 0, zeros, zeros, 0);
+    islands_listed(" 7 ;", zeros, 0, zeros, zeros, 1);
+    islands_listed("(1,2); (2,1);", zeros, 0, zeros, (const uint16_t[]){0, 1}, 2);
+    islands_listed(one, (const uint16_t[]){0, 2, 0, 3, 1, 2, 1, 3, 2, 3}, 5, (const uint16_t[]){2, 2, 3, 3}, zeros, 4);
+    islands_listed(middle_last, (const uint16_t[]){0, 2, 1, 2}, 2, (const uint16_t[]){1, 1, 2}, zeros, 3);
+    islands_listed(mixed, (const uint16_t[]){1, 4, 2, 6, 3, 6}, 3, (const uint16_t[]){0, 1, 1, 1, 1, 0, 2},
+                   (const uint16_t[]){0, 1, 2, 2, 1, 5, 2}, 7);
+}
+
+/* Too short a slice for the islands is refused before anything in the text. */
+static void islands_refused(void)
+{
+    const size_t numbers = NORBELATH_GRAPH_PAIRS, trees = NORBELATH_GRAPH_COUNTS;
+    list_refused(short_islands, "(1,2);", 6, numbers, trees, NORBELATH_SHORT_SLICE, 0);
+    list_refused(short_islands, "", 0, numbers, trees, NORBELATH_SHORT_SLICE, 0);
+    list_refused(short_islands, "(1,2", 4, numbers, trees, NORBELATH_SHORT_SLICE, 0);
+    list_refused(short_islands, "(1,2);", 6, numbers - 1, trees - 1, NORBELATH_SHORT_SLICE, 0);
+    list_refused(islands, "(1,2", 4, numbers, trees, NORBELATH_WRONG_BYTE, 4);
 }
 
 /* What the pair lister prints, of a table and of a text that is refused; line 7 is the only refusal. */
@@ -296,6 +364,28 @@ static void list_limits(struct lister l, const char *text, size_t full, size_t s
     list_refused(l, text, full + size, NORBELATH_GRAPH_PAIRS, NORBELATH_GRAPH_COUNTS, NORBELATH_TOO_MANY_TREES, full);
 }
 
+/* 160 trees that are one island, by the last of them, and 160 islands of one tree. */
+static void full_islands(void)
+{
+    static char text[NORBELATH_MAX_TREES * 10 + 1];
+    uint16_t expected[NORBELATH_MAX_TREES] = {0};
+    for (size_t i = 0; i < NORBELATH_MAX_TREES; i++) {
+        memcpy(text + i * 10, i + 1 < NORBELATH_MAX_TREES ? "((1,2),3);" : "((1,3),2);", 10);
+    }
+    struct reply r = list(islands, text, strlen(text), NORBELATH_GRAPH_PAIRS, NORBELATH_GRAPH_COUNTS);
+    check(same(r, NORBELATH_ACCEPTED, NORBELATH_MAX_TREES, NORBELATH_MAX_TREES - 1), "islands", text,
+          "159 pairs were expected");
+    numbered(text, expected, NORBELATH_MAX_TREES);
+
+    memcpy(text + (NORBELATH_MAX_TREES - 1) * 10, "((1,2),3);", 10);
+    for (uint16_t i = 0; i < NORBELATH_MAX_TREES; i++) {
+        expected[i] = i;
+    }
+    r = list(islands, text, strlen(text), NORBELATH_GRAPH_PAIRS, NORBELATH_GRAPH_COUNTS);
+    check(same(r, NORBELATH_ACCEPTED, NORBELATH_MAX_TREES, 0), "islands", text, "no pairs were expected");
+    numbered(text, expected, NORBELATH_MAX_TREES);
+}
+
 /* 160 trees are accepted and a 161st is refused; so is a text of one byte too many, whatever it holds. */
 static void limits(void)
 {
@@ -310,6 +400,7 @@ static void limits(void)
     table_refused(text, full + size, NORBELATH_TABLE_TEXTS, NORBELATH_TABLE_ENDS, NORBELATH_TOO_MANY_TREES, full);
     list_limits(graph, text, full, size);
     list_limits(interchanges, text, full, size);
+    list_limits(islands, text, full, size);
     sheet(text, full + size, NORBELATH_SHEET_OUT, "refused 6 at 960\n");
 
     memset(text, ' ', sizeof text);
@@ -319,6 +410,9 @@ static void limits(void)
     list_refused(graph, text, sizeof text, NORBELATH_GRAPH_PAIRS, NORBELATH_GRAPH_COUNTS, NORBELATH_LONG_TEXT, 0);
     list_refused(interchanges, text, sizeof text, NORBELATH_GRAPH_PAIRS, NORBELATH_GRAPH_COUNTS,
                  NORBELATH_LONG_TEXT, 0);
+    list_refused(islands, text, sizeof text, NORBELATH_GRAPH_PAIRS, NORBELATH_GRAPH_COUNTS, NORBELATH_LONG_TEXT, 0);
+    list_refused(short_islands, text, sizeof text, NORBELATH_GRAPH_PAIRS, NORBELATH_GRAPH_COUNTS,
+                 NORBELATH_SHORT_SLICE, 0);
     sheet(text, NORBELATH_MAX_TEXT, NORBELATH_SHEET_OUT, "trees 0 pairs 0\n");
     sheet(text, sizeof text, NORBELATH_SHEET_OUT, "refused 8 at 0\n");
     sheet(text, sizeof text, NORBELATH_SHEET_OUT - 1, NULL);
@@ -333,9 +427,13 @@ int main(void)
     tables();
     lists(graph);
     lists(interchanges);
+    lists(islands);
     moves_and_interchanges();
+    islands_of_trees();
+    islands_refused();
     sheets();
     limits();
+    full_islands();
     printf("C: %d checks, %d failed\n", checks, failures);
     return failures != 0;
 }

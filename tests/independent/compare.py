@@ -1,16 +1,19 @@
 #!/usr/bin/env python3
 """Compare a pair lister with reference.py on generated cases.
 
-    compare.py PROGRAM [--interchanges] [--seed S] [--count N]
+    compare.py PROGRAM [--interchanges | --islands] [--seed S] [--count N]
 
 PROGRAM is the path of an executable that reads a table of trees from standard
 input and writes the sheet to standard output; with --interchanges it is the
-program of interchanges.c, and the sheet is that of the interchange call.  It is
-run once for each case of generate.py, and its output must be the reference's
+program of interchanges.c, and the sheet is that of the interchange call; with
+--islands it is the program of islands, and the sheet has a line for each.  It
+is run once for each case of generate.py, and its output must be the reference's
 sheet, byte for byte.  A program that is ended by a signal, or runs longer than
 the time limit for one case, counts as a mismatch.  Its exit status and standard
 error are shown with a mismatch but not judged, since document 01 says nothing
-about them.
+about them.  Only where the sheet is empty, which that of islands is for a table
+without trees, the status has to be 0 and standard error empty too: a program
+that could not read its input leaves its output empty as well.
 
 The exit status is 1 if there was a mismatch, or if one of the refusal numbers
 1, 2, 3, 4, 5, 6 and 8 never came up, so that the comparison says less than it
@@ -55,7 +58,12 @@ def run_program(program, text):
 
 
 def agrees(run, expected):
-    """Whether the run ended by itself with the expected output."""
+    """Whether the run ended by itself with the expected output.
+
+    Where that is empty, the run must not tell of a failure either.
+    """
+    if not expected and (run.status != 0 or run.errors):
+        return False
     return run.status is not None and run.status >= 0 and run.output == expected
 
 
@@ -84,22 +92,27 @@ def first_difference(one, other):
     return min(len(one), len(other))
 
 
+def outputs_compared(expected, output):
+    """Where the outputs differ, in words; how a run ended is a mismatch too."""
+    if output == expected:
+        return "the outputs are equal"
+    return "the outputs differ from byte %d on" % first_difference(expected, output)
+
+
 def show_mismatch(name, text, expected, run):
     """Print one mismatch."""
     print("mismatch in %s" % name)
     print("  input:     %s" % shown(text))
     print("  reference: %s" % shown(expected))
     print("  program:   %s" % shown(run.output))
-    print("  the outputs differ from byte %d on; %s"
-          % (first_difference(expected, run.output), how_it_ended(run.status)))
+    print("  %s; %s" % (outputs_compared(expected, run.output), how_it_ended(run.status)))
     if run.errors:
         print("  standard error: %s" % shown(run.errors))
 
 
 def refusal_number(expected):
     """The number of a refusal's sheet, or None for an accepted table."""
-    words = expected.split()
-    return int(words[1]) if words[0] == b"refused" else None
+    return int(expected.split()[1]) if expected.startswith(b"refused ") else None
 
 
 def compare(program, sheet, seed, count):
@@ -126,16 +139,19 @@ def main(arguments):
     """Read the command line, compare, print the last line; exit status."""
     parser = argparse.ArgumentParser(description="Compare a pair lister with the reference program.")
     parser.add_argument("program", help="path of the pair lister")
-    parser.add_argument("--interchanges", action="store_true",
+    others = parser.add_mutually_exclusive_group()
+    others.add_argument("--interchanges", action="store_const", dest="sheet", const=reference.interchange_sheet,
                         help="the program is that of interchanges.c")
+    others.add_argument("--islands", action="store_const", dest="sheet", const=reference.island_sheet,
+                        help="the program is that of islands")
+    parser.set_defaults(sheet=reference.sheet)
     parser.add_argument("--seed", type=int, default=1)
     parser.add_argument("--count", type=int, default=DEFAULT_COUNT)
     options = parser.parse_args(arguments)
     program = os.path.abspath(options.program)
     if not os.access(program, os.X_OK) or os.path.isdir(program):
         parser.error("not an executable file: %s" % options.program)
-    sheet = reference.interchange_sheet if options.interchanges else reference.sheet
-    mismatches, seen = compare(program, sheet, options.seed, options.count)
+    mismatches, seen = compare(program, options.sheet, options.seed, options.count)
     missing = [number for number in seen if seen[number] == 0]
     if missing:
         print("never seen: refusal %s" % ", ".join(map(str, missing)))

@@ -1,5 +1,6 @@
 #!/usr/bin/env python3
-"""Test inputs for the pair lister, and for the program of interchanges.
+"""Test inputs for the pair lister, and for the programs of interchanges and of
+islands.
 
     generate.py SEED COUNT OUTDIR
 
@@ -379,6 +380,54 @@ def interchange_table(rng):
     return trees
 
 
+def island_table(rng):
+    """Two to four groups of trees, mixed in order.  No tree is one move from a
+    tree of another group."""
+    sizes = group_sizes(rng)
+    # So many leaves that the groups leave most topologies free.
+    leaves = rng.randint(6, 9) if sum(sizes) < 15 else rng.randint(10, 12)
+    labels = random_labels(rng, leaves)
+    trees = []
+    near = set()  # the topologies of the trees so far, and those one move away
+    for size in sizes:
+        group = grown_apart(rng, labels, size, near)
+        for tree in group:
+            near.update(map(shape, [tree] + all_moves(tree)))
+        trees += group
+    rng.shuffle(trees)
+    return trees
+
+
+def group_sizes(rng):
+    """Two to four numbers of one or more, with a sum of 3 to 14, at times of
+    up to 160."""
+    count = rng.randint(3, 14)
+    if rng.random() < 0.1:
+        count = rng.choice((rng.randint(15, MOST_TREES), MOST_TREES))
+    ends = sorted(rng.sample(range(1, count), rng.randint(1, min(3, count - 1))))
+    return [end - start for start, end in zip([0] + ends, ends + [count])]
+
+
+def grown_apart(rng, labels, size, near):
+    """A group of this size, whose trees have none of the `near` topologies.
+
+    Each tree but the first is a move from the one before or from any earlier
+    one, or now and then a copy.
+    """
+    from_last = rng.random() < 0.5
+    group = []
+    while len(group) < size:
+        if not group:
+            tree = random_tree(rng, labels)
+        else:
+            tree = group[-1] if from_last else rng.choice(group)
+            if rng.random() < 0.9:
+                tree = random_move(rng, tree)
+        if shape(tree) not in near:
+            group.append(swapped(rng, tree))
+    return group
+
+
 def crowd(rng, count):
     """Exactly `count` trees of 1 to 5 leaves."""
     labels = random_labels(rng, rng.randint(1, 5))
@@ -583,6 +632,7 @@ KINDS = (
     ("two-moves-apart", 6, accepted(two_moves_table)),
     ("large", 1, accepted(large_table)),
     ("interchanges", 4, accepted(interchange_table)),
+    ("islands", 6, accepted(island_table)),
     ("crowd", 1, accepted(crowded_table)),
     ("zeros", 4, zeros_before_labels),
     ("deep-comb", 1, deep_comb),

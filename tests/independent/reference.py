@@ -1,9 +1,12 @@
 #!/usr/bin/env python3
 """Reference program for the pair lister, written from document 01 and, for
-interchanges, ticket 2 of document 02.
+interchanges and islands, tickets 2 and 5 of document 02.
+
+    reference.py [--islands]
 
 As a command it reads a table of trees from standard input and writes the
-pair lister's sheet to standard output.  As a module it offers the calls
+pair lister's sheet to standard output, or, with --islands, the sheet of the
+program of islands.  As a module it offers the calls
 
     form(text)            the canonical text (bytes)
     cut(text, number)     the forest text of that cut (bytes)
@@ -11,9 +14,11 @@ pair lister's sheet to standard output.  As a module it offers the calls
     table(text)           Table(texts, ends)
     graph(text)           Graph(pairs, counts)
     interchanges(text)    the same for one interchange in place of one move
+    islands(text)         Islands(pairs, counts, numbers)
 
 and `sheet(text)`, the bytes the command prints, with `interchange_sheet(text)`
-for those of interchanges.c.  Texts are bytes.  A call that refuses returns a
+for those of interchanges.c and `island_sheet(text)` for those of the program
+of islands.  Texts are bytes.  A call that refuses returns a
 Refusal(number, text, place) instead; it is a tuple and equals the plain tuple
 of the same three numbers.
 
@@ -27,10 +32,16 @@ anywhere, so Lemma 2.2 of document 001 is not used.  Interchanges are gone
 through in the same way: every node that is neither the root nor a child of the
 root is taken off and regrafted above its aunt.
 
+How islands are found.  From a position not yet in an island, a breadth-first
+search goes along the listed pairs and gathers every position that it comes to;
+the smallest of them is the island's number.
+
 The values here are returned, not written into lent memory, so refusal 7 (a
 lent slice too short) does not arise.
 """
 
+import argparse
+import collections
 import functools
 import itertools
 import sys
@@ -76,6 +87,14 @@ class Graph(NamedTuple):
 
     pairs: list
     counts: list
+
+
+class Islands(NamedTuple):
+    """The graph's pairs and counts, and the island's number per tree."""
+
+    pairs: list
+    counts: list
+    numbers: list
 
 
 class Refused(Exception):
@@ -408,6 +427,13 @@ def interchanges(text):
     return graph_of(read_table(text), reached_by_interchange)
 
 
+@returns_refusal
+def islands(text):
+    """The graph of a table and the number of each tree's island."""
+    graph_ = graph_of(read_table(text), reached)
+    return Islands(graph_.pairs, graph_.counts, island_numbers(graph_))
+
+
 def table_of(trees):
     """The Table of trees already read."""
     texts = [canonical_text(tree) for tree in trees]
@@ -447,6 +473,39 @@ def number_topologies(trees):
     return [numbers.setdefault(tree.clades, len(numbers)) for tree in trees]
 
 
+def island_numbers(graph_):
+    """For each position the smallest one that a chain of pairs joins it to.
+
+    Every position is joined to itself, by the chain of no pairs.
+    """
+    neighbours = [[] for _ in graph_.counts]
+    for i, j in graph_.pairs:
+        neighbours[i].append(j)
+        neighbours[j].append(i)
+    numbers = [None] * len(neighbours)
+    for start, number in enumerate(numbers):
+        if number is None:
+            island = joined_to(start, neighbours)
+            for position in island:
+                numbers[position] = min(island)
+    return numbers
+
+
+def joined_to(start, neighbours):
+    """The set of positions that a chain of pairs joins to this one.
+
+    Breadth first: all positions at one distance come before the further ones.
+    """
+    found = {start}
+    waiting = collections.deque(found)
+    while waiting:
+        for position in neighbours[waiting.popleft()]:
+            if position not in found:
+                found.add(position)
+                waiting.append(position)
+    return found
+
+
 # The sheets
 
 
@@ -465,6 +524,18 @@ def interchange_sheet(text):
     if isinstance(answer, Refusal):
         return refusal_line(answer)
     return lines_of([b"tree %d neighbours %d" % item for item in enumerate(answer.counts)], answer.pairs)
+
+
+def island_sheet(text):
+    """What the program of islands prints for this standard input.
+
+    A table without trees has no islands, and so no line.
+    """
+    answer = islands(text)
+    if isinstance(answer, Refusal):
+        return refusal_line(answer)
+    sizes = collections.Counter(answer.numbers)
+    return b"".join(b"island %d %d\n" % item for item in sorted(sizes.items()))
 
 
 def refusal_line(refusal):
@@ -493,10 +564,15 @@ def lines_of(tree_lines, pairs):
     return b"".join(line + b"\n" for line in lines)
 
 
-def main():
+def main(arguments):
     """Standard input to standard output."""
-    sys.stdout.buffer.write(sheet(sys.stdin.buffer.read()))
+    parser = argparse.ArgumentParser(description="Print the sheet of the trees on standard input.")
+    parser.add_argument("--islands", action="store_true",
+                        help="print the sheet of the program of islands")
+    options = parser.parse_args(arguments)
+    chosen = island_sheet if options.islands else sheet
+    sys.stdout.buffer.write(chosen(sys.stdin.buffer.read()))
 
 
 if __name__ == "__main__":
-    main()
+    main(sys.argv[1:])

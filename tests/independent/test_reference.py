@@ -14,7 +14,9 @@ import unittest
 
 import generate
 import reference
-from reference import cut, form, graph, interchange_sheet, interchanges, pair, sheet, table
+from reference import (
+    cut, form, graph, interchange_sheet, interchanges, island_sheet, islands, pair, sheet, table,
+)
 
 HERE = os.path.dirname(os.path.abspath(__file__))
 
@@ -102,6 +104,22 @@ def text_from_clades(clades):
     return node_from_clades(clades, max(clades, key=len)) + b";"
 
 
+# Chains, worked out without a search.  They are used in this file only.
+
+
+def joined_matrix(count, pairs):
+    """Row i, column j: whether a chain of pairs joins i and j.
+
+    Warshall's closure: chains may pass through one position more each time.
+    """
+    joined = [[i == j or (i, j) in pairs or (j, i) in pairs for j in range(count)] for i in range(count)]
+    for middle in range(count):
+        for row in joined:
+            if row[middle]:
+                row[:] = [one or other for one, other in zip(row, joined[middle])]
+    return joined
+
+
 class Samples(unittest.TestCase):
     """Every sample of document 01."""
 
@@ -126,6 +144,7 @@ class Samples(unittest.TestCase):
         self.assertEqual(table(b""), ([], []))
         self.assertEqual(graph(b""), ([], []))
         self.assertEqual(interchanges(b""), ([], []))
+        self.assertEqual(islands(b""), ([], [], []))
         self.assertEqual(sheet(b""), b"trees 0 pairs 0\n")
 
     def test_other_labels(self):
@@ -133,6 +152,7 @@ class Samples(unittest.TestCase):
         self.assertEqual(table(b"(1,2);(1,3);"), (5, 0, 11))
         self.assertEqual(graph(b"(1,2);(1,3);"), (5, 0, 11))
         self.assertEqual(interchanges(b"(1,2);(1,3);"), (5, 0, 11))
+        self.assertEqual(islands(b"(1,2);(1,3);"), (5, 0, 11))
 
     def test_cuts(self):
         """All cuts of the four-leaf sample, and none of a single leaf."""
@@ -170,6 +190,7 @@ class Samples(unittest.TestCase):
         self.assertEqual(table(b"(1,2);" * 161), (6, 0, 960))
         self.assertEqual(graph(b"(1,2);" * 161), (6, 0, 960))
         self.assertEqual(interchanges(b"(1,2);" * 161), (6, 0, 960))
+        self.assertEqual(islands(b"(1,2);" * 161), (6, 0, 960))
 
     def test_sheet(self):
         """The whole sample sheet."""
@@ -298,6 +319,8 @@ class Refusals(unittest.TestCase):
         self.assertEqual(sheet(b"x" * 65536), b"refused 8 at 0\n")
         self.assertEqual(interchange_sheet(b"(1,2,3);"), b"refused 1 at 4\n")
         self.assertEqual(interchange_sheet(b"x" * 65536), b"refused 8 at 0\n")
+        self.assertEqual(island_sheet(b"(1,2,3);"), b"refused 1 at 4\n")
+        self.assertEqual(island_sheet(b"x" * 65536), b"refused 8 at 0\n")
         self.assertEqual(sheet(b"1;"), b"trees 1 pairs 0\ntree 0 neighbours 0 unlinked 0 1;\n")
 
 
@@ -342,6 +365,85 @@ pair 0 1
 pair 1 2
 """)
         self.assertEqual(interchange_sheet(b""), b"trees 0 pairs 0\n")
+
+
+class Islands(unittest.TestCase):
+    """Known cases of islands."""
+
+    def check(self, text, pairs, numbers, expected):
+        """The table has these pairs, island numbers and island sheet."""
+        answer = islands(text)
+        self.assertEqual(answer.pairs, pairs)
+        self.assertEqual(answer.numbers, numbers)
+        self.assertEqual(island_sheet(text), expected)
+
+    def test_sample(self):
+        """Document 01's table is one island of 4."""
+        self.check(SAMPLE_INPUT, [(0, 2), (0, 3), (1, 2), (1, 3), (2, 3)], [0, 0, 0, 0], b"island 0 4\n")
+
+    def test_no_trees(self):
+        """A table without trees has no line."""
+        self.check(b"", [], [], b"")
+        self.check(b" \t\r\n", [], [], b"")
+
+    def test_one_tree(self):
+        """One tree is an island."""
+        self.check(b" 7 ;", [], [0], b"island 0 1\n")
+
+    def test_unrelated_trees(self):
+        """Without pairs every tree is an island."""
+        text = b"(((1,2),3),4);(((1,4),3),2);(1,((2,4),3));"
+        self.check(text, [], [0, 1, 2], b"island 0 1\nisland 1 1\nisland 2 1\n")
+
+    def test_two_islands(self):
+        """Each has the number of its first tree, though they are mixed."""
+        text = (
+            b"(((((1,6),3),5),2),4);\n(((((3,4),5),6),1),2);\n(((((1,2),3),4),5),6);\n"
+            b"(((((1,6),3),5),4),2);\n(((((2,3),4),5),6),1);\n"
+        )
+        pairs = [(0, 3), (1, 4), (2, 4)]
+        self.check(text, pairs, [0, 1, 1, 0, 1], b"island 0 2\nisland 1 3\n")
+
+    def test_chain(self):
+        """The ends of a chain are in one island, wherever its middle stands."""
+        first, middle, last = b"(((1,2),3),4);", b"((1,2),(3,4));", b"(((3,4),1),2);"
+        self.assertIs(pair(first, last), False)
+        self.check(first + middle + last, [(0, 1), (1, 2)], [0, 0, 0], b"island 0 3\n")
+        self.check(middle + first + last, [(0, 1), (0, 2)], [0, 0, 0], b"island 0 3\n")
+        self.check(first + last + middle, [(0, 2), (1, 2)], [0, 0, 0], b"island 0 3\n")
+
+    def test_long_chain(self):
+        """A comb turned one label at a time, in order and in other orders."""
+        labels = list(range(1, 11))
+        combs = [text_of(generate.left_comb(labels[k:] + labels[:k])) for k in range(9)]
+        # The ends are neighbours of those next to them only.
+        self.assertEqual(graph(b"".join(combs)).counts, [1, 2, 2, 2, 2, 2, 2, 2, 1])
+        rng = random.Random(21)
+        for order in [combs, combs[::-1], combs[::2] + combs[1::2]] + [rng.sample(combs, 9) for _ in range(20)]:
+            self.assertEqual(island_sheet(b"".join(order)), b"island 0 9\n")
+        self.assertEqual(island_sheet(b"".join(combs[:4] + combs[5:])), b"island 0 4\nisland 4 4\n")
+
+    def test_copies(self):
+        """Copies are no pair; only pairs put them into one island."""
+        self.check(b"((1,2),3);(3,(2,1));((1,2),3);", [], [0, 1, 2], b"island 0 1\nisland 1 1\nisland 2 1\n")
+        self.check(b"((1,2),3);(3,(2,1));((1,3),2);", [(0, 2), (1, 2)], [0, 0, 0], b"island 0 3\n")
+        # Two copies that stand alone, beside two neighbours.
+        self.check(
+            b"(((1,2),3),4);((1,(3,4)),2);(4,(3,(2,1)));(1,(2,(3,4)));",
+            [(1, 3)], [0, 1, 2, 1], b"island 0 1\nisland 1 2\nisland 2 1\n")
+
+    def test_full_tables(self):
+        """160 islands of one, and one of 160 that its last tree joins."""
+        self.assertEqual(islands(b"(1,2);" * 160).numbers, list(range(160)))
+        self.assertEqual(island_sheet(b"(1,2);" * 160), b"".join(b"island %d 1\n" % k for k in range(160)))
+        self.assertEqual(island_sheet(b"((1,2),3);" * 159 + b"((1,3),2);"), b"island 0 160\n")
+
+    def test_refused(self):
+        """The lister's line, and nothing else."""
+        for text in (b"(1,2,3);", b"(1,65);", b"(1,1);", OPEN_63 + b"(", b"1;2;", b"1;" * 161, b" " * 65536):
+            self.assertEqual(islands(text), graph(text))
+            self.assertIsInstance(islands(text), reference.Refusal)
+            self.assertEqual(island_sheet(text), sheet(text))
 
 
 class AllSmallTrees(unittest.TestCase):
@@ -548,6 +650,29 @@ class RandomTrees(unittest.TestCase):
                 self.assertEqual(count, sum(i in one_pair for one_pair in pairs))
         self.assertGreater(fewer, 10)
 
+    def test_island_tables(self):
+        """Two positions have one number exactly when a chain joins them; the
+        number is the smallest of its island; sizes make up the table."""
+        rng = random.Random(22)
+        with_chains = 0
+        for _ in range(80):
+            trees = rng.choice((generate.usual_table, generate.island_table))(rng)
+            text = generate.written(rng, trees)
+            pairs, counts, numbers = islands(text)
+            self.assertEqual((pairs, counts), graph(text))
+            self.assertEqual(len(numbers), len(trees))
+            joined = joined_matrix(len(trees), set(pairs))
+            for i, row in enumerate(joined):
+                self.assertEqual([number == numbers[i] for number in numbers], row)
+                self.assertEqual(numbers[i], row.index(True))
+            with_chains += any(sum(row) > counts[i] + 1 for i, row in enumerate(joined))
+            lines = [line.split() for line in island_sheet(text).splitlines()]
+            listed = [int(number) for _, number, _ in lines]
+            self.assertEqual(listed, sorted(set(numbers)))
+            self.assertEqual([int(size) for _, _, size in lines], [numbers.count(number) for number in listed])
+            self.assertEqual(sum(int(size) for _, _, size in lines), len(trees))
+        self.assertGreater(with_chains, 20)
+
 
 class Generator(unittest.TestCase):
     """The cases themselves, and the command."""
@@ -565,23 +690,39 @@ class Generator(unittest.TestCase):
             "damaged-label": b"refused 2 ", "repeated-label": b"refused 3 ", "too-deep": b"refused 4 ",
             "other-labels": b"refused 5 ", "too-many": b"refused 6 ", "deep-comb": b"trees ",
             "random-table": b"trees ", "chain": b"trees ", "copies": b"trees ", "crowd": b"trees ",
-            "interchanges": b"trees ", "zeros": b"trees ",
+            "interchanges": b"trees ", "islands": b"trees ", "zeros": b"trees ",
         }
         refused = set()
         for position, kind, text in generate.cases(5, 800):
             output = sheet(text)
             self.assertTrue(output.startswith(promised.get(kind, b"")), (position, kind))
+            if kind == "islands":
+                self.assertGreater(len(island_sheet(text).splitlines()), 1, position)
             if output.startswith(b"refused"):
                 refused.add(int(output.split()[1]))
         self.assertEqual(refused, {1, 2, 3, 4, 5, 6, 8})
 
+    def test_island_tables_are_mixed(self):
+        """Many of them have two islands of two or more trees, islands of two
+        sizes, and an island that goes on behind the start of the next."""
+        rng = random.Random(23)
+        large, unequal, mixed = 0, 0, 0
+        for _ in range(40):
+            numbers = islands(generate.plain(generate.island_table(rng))).numbers
+            sizes = [numbers.count(number) for number in set(numbers)]
+            large += sum(size > 1 for size in sizes) > 1
+            unequal += len(set(sizes)) > 1
+            mixed += numbers != sorted(numbers)
+        self.assertGreater(min(large, unequal, mixed), 15)
+
     def test_command(self):
         """The command prints the sheet and nothing else."""
-        done = subprocess.run(
-            [sys.executable, os.path.join(HERE, "reference.py")], input=SAMPLE_INPUT,
-            stdout=subprocess.PIPE, stderr=subprocess.PIPE, check=True,
-        )
-        self.assertEqual((done.stdout, done.stderr), (SAMPLE_SHEET, b""))
+        for option, expected in (([], SAMPLE_SHEET), (["--islands"], b"island 0 4\n")):
+            done = subprocess.run(
+                [sys.executable, os.path.join(HERE, "reference.py")] + option, input=SAMPLE_INPUT,
+                stdout=subprocess.PIPE, stderr=subprocess.PIPE, check=True,
+            )
+            self.assertEqual((done.stdout, done.stderr), (expected, b""))
 
 
 if __name__ == "__main__":

@@ -5,7 +5,7 @@
 //! canonical string, the strings are the keys of a hash map, and two trees of
 //! different topology that meet under one key are a pair. For interchanges the
 //! canonical texts of all trees one interchange away are looked up among those
-//! of the table.
+//! of the table. Islands are found by uniting sets along the listed pairs.
 //!
 //! Results are returned, not written into lent memory, so refusal 7 (a lent
 //! slice too short) does not arise.
@@ -16,7 +16,7 @@ mod tree;
 #[cfg(test)]
 mod tests;
 
-use std::collections::{HashMap, HashSet};
+use std::collections::{BTreeMap, HashMap, HashSet};
 use std::io::Write;
 
 use reader::Reader;
@@ -60,6 +60,9 @@ pub struct Refusal {
 /// Pairs (i, j) with i < j in order of i, then j, and the neighbour count of
 /// each tree.
 pub type Graph = (Vec<(u16, u16)>, Vec<u16>);
+
+/// Pairs and neighbour counts of a graph, and the number of each tree's island.
+pub type Islands = (Vec<(u16, u16)>, Vec<u16>, Vec<u16>);
 
 /// The canonical text of a text with exactly one tree.
 pub fn form(text: &[u8]) -> Result<Vec<u8>, Refusal> {
@@ -124,6 +127,37 @@ pub fn graph(text: &[u8]) -> Result<Graph, Refusal> {
 /// The same for one interchange in place of one move.
 pub fn interchanges(text: &[u8]) -> Result<Graph, Refusal> {
     Ok(graph_of(&read_table(text)?, one_interchange_apart))
+}
+
+/// The graph of a table and the number of each tree's island: the smallest
+/// position that a chain of listed pairs joins it to, or its own.
+pub fn islands(text: &[u8]) -> Result<Islands, Refusal> {
+    let (pairs, counts) = graph(text)?;
+    let numbers = island_numbers(counts.len(), &pairs);
+    Ok((pairs, counts, numbers))
+}
+
+/// The islands of a table as text: a line for each, in order of number, with
+/// the number and how many trees are in it.
+pub fn island_sheet(text: &[u8]) -> Vec<u8> {
+    let mut out = Vec::new();
+    write_island_sheet(text, &mut out).expect("writing to a vector does not fail");
+    out
+}
+
+fn write_island_sheet(text: &[u8], out: &mut Vec<u8>) -> std::io::Result<()> {
+    let numbers = match islands(text) {
+        Ok((_, _, numbers)) => numbers,
+        Err(refusal) => return write_refusal(refusal, out),
+    };
+    let mut sizes: BTreeMap<u16, usize> = BTreeMap::new();
+    for number in numbers {
+        *sizes.entry(number).or_default() += 1;
+    }
+    for (number, size) in sizes {
+        writeln!(out, "island {number} {size}")?;
+    }
+    Ok(())
 }
 
 /// The interchange graph of a table as text: the numbers of trees and pairs, a
@@ -299,4 +333,30 @@ fn one_interchange_apart(trees: &[&Tree]) -> Adjacency {
         }
     }
     adjacent
+}
+
+/// The island of each of so many positions.
+///
+/// Every position names one of its island that is not larger, and the smallest
+/// of an island names itself.
+fn island_numbers(positions: usize, pairs: &[(u16, u16)]) -> Vec<u16> {
+    let mut named: Vec<usize> = (0..positions).collect();
+    for &(i, j) in pairs {
+        let one = smallest(&mut named, usize::from(i));
+        let other = smallest(&mut named, usize::from(j));
+        named[one.max(other)] = one.min(other);
+    }
+    (0..positions)
+        .map(|position| smallest(&mut named, position) as u16)
+        .collect()
+}
+
+/// Follows the names from a position to the one that names itself, and halves
+/// the way there for the next time.
+fn smallest(named: &mut [usize], mut position: usize) -> usize {
+    while named[position] != position {
+        named[position] = named[named[position]];
+        position = named[position];
+    }
+    position
 }

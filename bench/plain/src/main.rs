@@ -1,5 +1,5 @@
 //! Reads a table of trees from standard input and prints the sheet; with
-//! `--interchanges`, the graph of interchanges.
+//! `--interchanges`, the graph of interchanges; with `--islands`, the islands.
 
 use std::io::{self, Read, Write};
 
@@ -7,6 +7,7 @@ fn main() -> io::Result<()> {
     let printed = match std::env::args().nth(1).as_deref() {
         None => plain::sheet,
         Some("--interchanges") => plain::interchange_sheet,
+        Some("--islands") => plain::island_sheet,
         Some(other) => panic!("not an option: {other}"),
     };
     // One byte above the limit is enough for the refusal.

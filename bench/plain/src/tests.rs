@@ -1,4 +1,4 @@
-//! The samples of document 01, and interchanges.
+//! The samples of document 01, interchanges and islands.
 
 use super::*;
 
@@ -46,7 +46,9 @@ fn empty_text() {
     assert_eq!(table(b""), Ok((vec![], vec![])));
     assert_eq!(graph(b""), Ok((vec![], vec![])));
     assert_eq!(interchanges(b""), Ok((vec![], vec![])));
+    assert_eq!(islands(b""), Ok((vec![], vec![], vec![])));
     assert_eq!(sheet(b""), b"trees 0 pairs 0\n");
+    assert_eq!(island_sheet(b""), b"");
 }
 
 #[test]
@@ -161,6 +163,7 @@ fn number_of_trees() {
     assert_eq!(table(one_more.as_bytes()), refused(6, 960));
     assert_eq!(graph(one_more.as_bytes()), refused(6, 960));
     assert_eq!(interchanges(one_more.as_bytes()), refused(6, 960));
+    assert_eq!(islands(one_more.as_bytes()), refused(6, 960));
 }
 
 #[test]
@@ -168,6 +171,7 @@ fn length_of_the_text() {
     assert_eq!(table(&vec![b' '; 65_535]), Ok((vec![], vec![])));
     assert_eq!(table(&vec![b'x'; 65_536]), refused(8, 0));
     assert_eq!(interchanges(&vec![b'x'; 65_536]), refused(8, 0));
+    assert_eq!(islands(&vec![b'x'; 65_536]), refused(8, 0));
     assert_eq!(sheet(&vec![b'x'; 65_536]), b"refused 8 at 0\n");
 }
 
@@ -264,4 +268,87 @@ fn interchange_graphs() {
         ))
     );
     assert_eq!(interchanges(b"(1,2);(1,3);"), refused(5, 11));
+}
+
+/// Two copies alone, two neighbours and a chain of three.
+const MIXED: &str = "((((3,4),2),1),5); ((((1,2),5),4),3); ((((3,4),5),1),2); ((((1,2),3),4),5);
+    ((((2,5),1),4),3); ((((3,4),2),1),5); ((((2,3),4),5),1);";
+
+/// A table with these pairs and islands; the counts are those of its graph.
+fn has_islands(table: &str, pairs: &[(u16, u16)], numbers: &[u16]) {
+    let (listed, counts) = graph(table.as_bytes()).unwrap();
+    assert_eq!(listed, pairs, "{table}");
+    let expected = Ok((listed, counts, numbers.to_vec()));
+    assert_eq!(islands(table.as_bytes()), expected, "{table}");
+}
+
+#[test]
+fn islands_of_tables() {
+    let (first, middle, last) = ("(((1,2),3),4);", "((1,2),(3,4));", "(((3,4),1),2);");
+    has_islands(" 7 ;", &[], &[0]);
+    has_islands(&format!("{first}{last}"), &[], &[0, 1]);
+    // The ends of a chain are in one island, wherever its middle stands.
+    has_islands(
+        &format!("{first}{middle}{last}"),
+        &[(0, 1), (1, 2)],
+        &[0, 0, 0],
+    );
+    has_islands(
+        &format!("{first}{last}{middle}"),
+        &[(0, 2), (1, 2)],
+        &[0, 0, 0],
+    );
+    // Copies are no pair; a neighbour of theirs joins them.
+    has_islands("((1,2),3);(3,(2,1));", &[], &[0, 1]);
+    has_islands(
+        "((1,2),3);(3,(2,1));((1,3),2);",
+        &[(0, 2), (1, 2)],
+        &[0, 0, 0],
+    );
+    has_islands(MIXED, &[(1, 4), (2, 6), (3, 6)], &[0, 1, 2, 2, 1, 5, 2]);
+    assert_eq!(islands(b"(1,2);(1,3);"), refused(5, 11));
+}
+
+#[test]
+fn islands_of_full_tables() {
+    let alone: Vec<u16> = (0..160).collect();
+    has_islands(&"(1,2);".repeat(160), &[], &alone);
+    let joined = "((1,2),3);".repeat(159) + "((1,3),2);";
+    assert_eq!(islands(joined.as_bytes()).unwrap().2, [0; 160]);
+}
+
+/// Every graph of five positions beside the numbers that no pair makes smaller.
+#[test]
+fn islands_of_every_small_graph() {
+    let all: Vec<(u16, u16)> = (0..5).flat_map(|j| (0..j).map(move |i| (i, j))).collect();
+    for chosen in 0..1 << all.len() {
+        let pairs: Vec<(u16, u16)> = (0..all.len())
+            .filter(|k| chosen >> k & 1 == 1)
+            .map(|k| all[k])
+            .collect();
+        let mut numbers: Vec<u16> = (0..5).collect();
+        for _ in 0..5 {
+            for &(i, j) in &pairs {
+                let least = numbers[i as usize].min(numbers[j as usize]);
+                numbers[i as usize] = least;
+                numbers[j as usize] = least;
+            }
+        }
+        assert_eq!(island_numbers(5, &pairs), numbers, "{pairs:?}");
+        let backwards: Vec<(u16, u16)> = pairs.iter().rev().copied().collect();
+        assert_eq!(island_numbers(5, &backwards), numbers, "{backwards:?}");
+    }
+}
+
+#[test]
+fn island_sheets() {
+    let input = b"((2,1),3);\n(3,(2,1));\n(1,(2,3));\n((1,3),2);\n";
+    assert_eq!(island_sheet(input), b"island 0 4\n");
+    assert_eq!(island_sheet(b" \t\r\n"), b"");
+    assert_eq!(
+        island_sheet(MIXED.as_bytes()),
+        b"island 0 1\nisland 1 2\nisland 2 3\nisland 5 1\n"
+    );
+    assert_eq!(island_sheet(b"(1,2,3);"), b"refused 1 at 4\n");
+    assert_eq!(island_sheet(&vec![b'x'; 65_536]), b"refused 8 at 0\n");
 }

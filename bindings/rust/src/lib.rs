@@ -13,6 +13,8 @@
 //! assert_eq!(graph.counts, [1, 2, 1]);
 //! let graph = norbelath::interchanges(b"(((1,2),3),4); ((1,2),(3,4)); (((1,4),2),3);").unwrap();
 //! assert_eq!(graph.pairs, [(0, 1)]);
+//! let answer = norbelath::islands(b"(((1,2),3),4); (1,(2,(3,4))); (((1,3),2),4);").unwrap();
+//! assert_eq!(answer.islands, [0, 1, 0]);
 //! let table = norbelath::table(b"(2,1); (1,2);").unwrap();
 //! assert_eq!(table.trees().collect::<Vec<_>>(), [b"(1,2);", b"(1,2);"]);
 //! assert_eq!(norbelath::sheet(b"(1,2);"), b"trees 1 pairs 0\ntree 0 neighbours 0 unlinked 0 (1,2);\n");
@@ -37,10 +39,13 @@ pub const CUT_OUT: usize = 307;
 pub const TABLE_TEXTS: usize = 49_440;
 /// The least length of the slice lent to [`table_into`] for the ends.
 pub const TABLE_ENDS: usize = 160;
-/// The least length of the slice lent to [`graph_into`] or [`interchanges_into`] for the pairs, two numbers each.
+/// The least length of the slice lent to [`graph_into`], [`interchanges_into`] or [`islands_into`] for the pairs, two
+/// numbers each.
 pub const GRAPH_PAIRS: usize = 25_440;
-/// The least length of the slice lent to [`graph_into`] or [`interchanges_into`] for the counts.
+/// The least length of the slice lent to [`graph_into`], [`interchanges_into`] or [`islands_into`] for the counts.
 pub const GRAPH_COUNTS: usize = 160;
+/// The least length of the slice lent to [`islands_into`] for the islands.
+pub const ISLANDS: usize = 160;
 /// The least length of the slice lent to [`sheet_into`].
 pub const SHEET_OUT: usize = 220_902;
 
@@ -102,6 +107,18 @@ extern "C" {
         first: *mut u64,
         second: *mut u64,
     ) -> u8;
+    fn norbelath_islands(
+        text: *const u8,
+        text_len: usize,
+        pairs: *mut u16,
+        pairs_len: usize,
+        counts: *mut u16,
+        counts_len: usize,
+        islands: *mut u16,
+        islands_len: usize,
+        first: *mut u64,
+        second: *mut u64,
+    ) -> u8;
     fn norbelath_sheet(
         text: *const u8,
         text_len: usize,
@@ -112,7 +129,7 @@ extern "C" {
     ) -> u8;
 }
 
-/// A call of the library that lists pairs: the graph call or the interchange call.
+/// A call of the library that lists pairs into two slices: the graph call or the interchange call.
 type Lister = unsafe extern "C" fn(
     text: *const u8,
     text_len: usize,
@@ -187,7 +204,8 @@ pub struct TableSize {
     pub trees: usize,
 }
 
-/// How much [`graph_into`] or [`interchanges_into`] wrote: a count for each tree, and two numbers for each pair.
+/// How much [`graph_into`], [`interchanges_into`] or [`islands_into`] wrote: a count for each tree, and two numbers for
+/// each pair; the last also an island for each tree.
 #[derive(Clone, Copy, Debug, PartialEq, Eq)]
 pub struct GraphSize {
     pub trees: usize,
@@ -219,6 +237,14 @@ impl Table {
 pub struct Graph {
     pub pairs: Vec<(u16, u16)>,
     pub counts: Vec<u16>,
+}
+
+/// What [`islands`] gives: the pairs and counts of [`graph`], and for each position the number of its island.
+#[derive(Clone, Debug, PartialEq, Eq)]
+pub struct Islands {
+    pub pairs: Vec<(u16, u16)>,
+    pub counts: Vec<u16>,
+    pub islands: Vec<u16>,
 }
 
 /// Makes a call that is lent two numbers, and reads its result: the two numbers of what is accepted, or the refusal.
@@ -343,6 +369,31 @@ fn list_into(
     Ok(GraphSize { trees, pairs })
 }
 
+/// Writes what [`graph_into`] writes, and the number of each tree's island into `islands`, of at least [`ISLANDS`]
+/// numbers.
+pub fn islands_into(
+    text: &[u8],
+    pairs: &mut [u16],
+    counts: &mut [u16],
+    islands: &mut [u16],
+) -> Result<GraphSize, Refusal> {
+    let (trees, pairs) = answer(|first, second| unsafe {
+        norbelath_islands(
+            text.as_ptr(),
+            text.len(),
+            pairs.as_mut_ptr(),
+            pairs.len(),
+            counts.as_mut_ptr(),
+            counts.len(),
+            islands.as_mut_ptr(),
+            islands.len(),
+            first,
+            second,
+        )
+    })?;
+    Ok(GraphSize { trees, pairs })
+}
+
 /// Writes what the pair lister prints for a text into `out`, of at least [`SHEET_OUT`] bytes. Gives its length.
 ///
 /// A text that is refused has its sheet too, the line `refused N at P`: the only refusal is [`Refusal::SHORT_SLICE`].
@@ -388,7 +439,7 @@ pub fn table(text: &[u8]) -> Result<Table, Refusal> {
 
 /// The pairs of a text's trees that are one move apart, and each tree's number of pairs.
 pub fn graph(text: &[u8]) -> Result<Graph, Refusal> {
-    list(norbelath_graph, text)
+    list(|pairs, counts| graph_into(text, pairs, counts))
 }
 
 /// The pairs of a text's trees that are one nearest-neighbour interchange apart, and each tree's number of pairs.
@@ -396,13 +447,31 @@ pub fn graph(text: &[u8]) -> Result<Graph, Refusal> {
 /// An interchange takes a node that is neither the root nor a child of the root and regrafts it on the edge above its
 /// aunt, the sibling of its parent.
 pub fn interchanges(text: &[u8]) -> Result<Graph, Refusal> {
-    list(norbelath_interchanges, text)
+    list(|pairs, counts| interchanges_into(text, pairs, counts))
 }
 
-fn list(lister: Lister, text: &[u8]) -> Result<Graph, Refusal> {
+/// The pairs of a text's trees that are one move apart, each tree's number of pairs, and the number of its island.
+///
+/// An island is a group of trees that chains of those pairs join. Its number is the smallest position in it.
+pub fn islands(text: &[u8]) -> Result<Islands, Refusal> {
+    let mut islands = vec![0; ISLANDS];
+    let Graph { pairs, counts } =
+        list(|pairs, counts| islands_into(text, pairs, counts, &mut islands))?;
+    islands.truncate(counts.len());
+    Ok(Islands {
+        pairs,
+        counts,
+        islands,
+    })
+}
+
+/// What a call writes into the pairs and the counts that it is lent.
+fn list(
+    call: impl FnOnce(&mut [u16], &mut [u16]) -> Result<GraphSize, Refusal>,
+) -> Result<Graph, Refusal> {
     let mut pairs = vec![0; GRAPH_PAIRS];
     let mut counts = vec![0; GRAPH_COUNTS];
-    let size = list_into(lister, text, &mut pairs, &mut counts)?;
+    let size = call(&mut pairs, &mut counts)?;
     pairs.truncate(2 * size.pairs);
     counts.truncate(size.trees);
     let pairs = pairs

@@ -4,13 +4,14 @@ use mathlib.Core.Path.{_≡_, refl, sym, ap, ap₂, _∙_}
 use mathlib.Core.List.{List}
 use Prim.Native.Nat.{ℕ}
 use Rattle.meaning.specs.Tree.{Tree}
-use Rattle.meaning.specs.Answer.{Answer, Outcome, TableSize, TableMemory, GraphSize, GraphMemory}
-use Rattle.meaning.specs.Calls.{formCall, cutCall, PairCall, tableCall, GraphBy}
+use Rattle.meaning.specs.Answer.{Answer, Outcome, TableSize, TableMemory, GraphSize, GraphMemory, IslandsMemory}
+use Rattle.meaning.specs.Calls.{formCall, cutCall, PairCall, tableCall, GraphBy, IslandsCall}
 use Rattle.meaning.specs.Sheet.{SheetCall}
-use Rattle.meaning.proofs.Determined.{pair-determined, graph-determined, sheet-call-determined as sheet-determined}
+use Rattle.meaning.proofs.Determined.{pair-determined, graph-determined, islands-determined, sheet-call-determined as sheet-determined}
 use Rattle.meaning.proofs.Logic.{clash}
 use Rattle.reading.specs.declared.Refusal.{Refusal}
-use Rattle.calls.specs.Paper.{refusalOf, textAnswer, textOutcome, pairAnswer, tableAnswer, tableOutcome, graphAnswer, graphOutcome}
+use Rattle.reading.specs.Paper.{refusalOf}
+use Rattle.calls.specs.Paper.{textAnswer, textOutcome, pairAnswer, tableAnswer, tableOutcome, graphAnswer, graphOutcome, islandsOutcome}
 use Rattle.calls.specs.declared.TextAnswer.{TextAnswer}
 use Rattle.calls.specs.declared.TextAnswer.the-variants.{Written, Refused}
 use Rattle.calls.specs.declared.PairAnswer.{PairAnswer}
@@ -97,4 +98,16 @@ graph-call-determined s memory r r′ e f =
       graph-one r r′ (ap (λ (x : Outcome GraphSize GraphMemory). x .answer) h),
       ap (λ (x : Outcome GraphSize GraphMemory). x .memory .pairs) h,
       ap (λ (x : Outcome GraphSize GraphMemory). x .memory .counts) h,
+    )
+
+-- the islands call
+pub islands-call-determined : (s : List ℕ) (memory : IslandsMemory) (r r′ : GraphAnswer) {pairs pairs′ counts counts′ islands islands′ : List ℕ}
+    → IslandsCall s memory (islandsOutcome r pairs counts islands) → IslandsCall s memory (islandsOutcome r′ pairs′ counts′ islands′)
+    → (r ≡ r′) × (pairs ≡ pairs′) × (counts ≡ counts′) × (islands ≡ islands′)
+islands-call-determined s memory r r′ e f =
+    let h = islands-determined e f in (
+      graph-one r r′ (ap (λ (x : Outcome GraphSize IslandsMemory). x .answer) h),
+      ap (λ (x : Outcome GraphSize IslandsMemory). x .memory .graph .pairs) h,
+      ap (λ (x : Outcome GraphSize IslandsMemory). x .memory .graph .counts) h,
+      ap (λ (x : Outcome GraphSize IslandsMemory). x .memory .islands) h,
     )

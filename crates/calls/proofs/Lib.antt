@@ -1,6 +1,5 @@
 pub mod Determined
 pub mod Graphing
-pub mod Lent
 pub mod Pairing
 pub mod Sheets
 pub mod Tabling

@@ -22,7 +22,7 @@ use Rattle.reading.specs.declared.TreeRead.{TreeRead}
 use Rattle.reading.specs.declared.Step.the-variants.{Next, Refused as StepRefused}
 use Rattle.reading.proofs.Steps.{Accepts, step-next, step-denied}
 use Rattle.calls.specs.Paired.{Answers, is-apart, not-apart, refuses}
-use Rattle.calls.specs.Paper.{refusalOf}
+use Rattle.reading.specs.Paper.{refusalOf}
 
 -- what is answered to an answer that is known
 answers : {a a′ : Answer ((t : Topology) × Topology)} {b : Answer Bool} → a ≡ a′ → Answers a′ b → Answers a b

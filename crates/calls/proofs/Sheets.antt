@@ -5,7 +5,7 @@ use mathlib.Core.Bool.{true, false}
 use mathlib.Core.List.{List}
 use Prim.Native.Nat.{ℕ}
 use Rattle.meaning.specs.Calls.{enough}
-use Rattle.meaning.specs.Sheet.{sheetSlices, SheetCall, gives}
+use Rattle.meaning.specs.Sheet.{SheetOf, sheetSlices, SheetCall, gives}
 use Rattle.meaning.proofs.Calls.{sheet-exists}
 use Rattle.reading.specs.declared.Refusal.{Refusal}
 use Rattle.sheet.specs.Printed.{Printed}
@@ -18,5 +18,5 @@ module _ (s out : List ℕ) where
   sheet-refused e f = let (y, h) = sheet-exists s in subst (SheetCall s out) (rw (e, f)) (gives y h)
 
   -- or it prints
-  pub sheet-printed : {out′ : List ℕ} {r : ℕ} → enough (sheetSlices out) ≡ true → Printed s out out′ r → SheetCall s out (textOutcome (Written r) out′)
+  pub sheet-printed : {out′ : List ℕ} {r : ℕ} → enough (sheetSlices out) ≡ true → Printed SheetOf s out out′ r → SheetCall s out (textOutcome (Written r) out′)
   sheet-printed e p = subst (SheetCall s out) (rw (e, p .many, p .memory)) (gives (p .bytes) (p .prints))

@@ -28,11 +28,14 @@ use Rattle.reading.specs.declared.Refusal.{Refusal}
 use Rattle.reading.specs.declared.TreeRead.{TreeRead}
 use Rattle.reading.specs.declared.Step.the-variants.{Next, Refused as StepRefused}
 use Rattle.writing.specs.Writing.{ForestFits}
-use Rattle.calls.specs.Lent.{TreeLent, CutRoom, cutText}
-use Rattle.calls.specs.Paper.{refusalOf, textOutcome}
+use Rattle.reading.specs.Lent.{TreeLent}
+use Rattle.calls.specs.Cuts.{CutRoom, cutText}
+use Rattle.reading.specs.Paper.{refusalOf}
+use Rattle.calls.specs.Paper.{textOutcome}
 use Rattle.calls.specs.declared.TextAnswer.{TextAnswer}
 use Rattle.calls.specs.declared.TextAnswer.the-variants.{Written, Refused}
-use Rattle.calls.proofs.Lent.{Given, lent-next, lent-refused, concluded}
+use Rattle.reading.proofs.Lent.{Given, lent-next, lent-refused}
+use Rattle.meaning.proofs.Lent.{concluded}
 
 -- what is written from the start of a slice on
 pub wrote-text : {ys out out′ : List ℕ} {r : ℕ} → Wrote ys out out′ 0 r → length ys ≤ length out → textOutcome (Written r) out′ ≡ record { answer = accepted (length ys); memory = written ys out }

@@ -1,4 +1,4 @@
-pub mod Lent
+pub mod Cuts
 pub mod Paired
 pub mod Paper
 pub mod Tabled

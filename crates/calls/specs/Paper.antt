@@ -3,8 +3,8 @@
 use mathlib.Core.Bool.{Bool, true, false}
 use mathlib.Core.List.{List}
 use Prim.Native.Nat.{ℕ}
-use Rattle.meaning.specs.Answer.{Answer, accepted, refusal, Outcome, TableSize, TableMemory, GraphSize, GraphMemory}
-use Rattle.reading.specs.declared.Refusal.{Refusal}
+use Rattle.meaning.specs.Answer.{Answer, accepted, Outcome, TableSize, TableMemory, GraphSize, GraphMemory, IslandsMemory}
+use Rattle.reading.specs.Paper.{refusalOf}
 use Rattle.calls.specs.declared.TextAnswer.{TextAnswer}
 use Rattle.calls.specs.declared.TextAnswer.the-variants.{Written, Refused}
 use Rattle.calls.specs.declared.PairAnswer.{PairAnswer}
@@ -13,10 +13,6 @@ use Rattle.calls.specs.declared.TableAnswer.{TableAnswer}
 use Rattle.calls.specs.declared.TableAnswer.the-variants as table
 use Rattle.calls.specs.declared.GraphAnswer.{GraphAnswer}
 use Rattle.calls.specs.declared.GraphAnswer.the-variants as graph
-
--- a refusal is its number, which text and the place
-abbrev pub refusalOf : {A : Type 0} → Refusal → Answer A
-refusalOf x = refusal (x .number) (x .text) (x .place)
 
 -- the form call, the cut call and the sheet call: the bytes written
 abbrev pub textAnswer : TextAnswer → Answer ℕ
@@ -41,10 +37,17 @@ tableAnswer (table.Refused x) = refusalOf x
 abbrev pub tableOutcome : TableAnswer → List ℕ → List ℕ → Outcome TableSize TableMemory
 tableOutcome r texts ends = record { answer = tableAnswer r; memory = record { texts = texts; ends = ends } }
 
--- the graph call: the trees, and the pairs
+-- the graph call, the interchange call and the islands call: the trees, and the pairs
 abbrev pub graphAnswer : GraphAnswer → Answer GraphSize
 graphAnswer (graph.Listed k m) = accepted (record { trees = k; pairs = m })
 graphAnswer (graph.Refused x) = refusalOf x
 
 abbrev pub graphOutcome : GraphAnswer → List ℕ → List ℕ → Outcome GraphSize GraphMemory
 graphOutcome r pairs counts = record { answer = graphAnswer r; memory = record { pairs = pairs; counts = counts } }
+
+-- the islands call: the same, with one slice more
+abbrev pub islandSlices : List ℕ → List ℕ → List ℕ → IslandsMemory
+islandSlices pairs counts islands = record { graph = record { pairs = pairs; counts = counts }; islands = islands }
+
+abbrev pub islandsOutcome : GraphAnswer → List ℕ → List ℕ → List ℕ → Outcome GraphSize IslandsMemory
+islandsOutcome r pairs counts islands = record { answer = graphAnswer r; memory = islandSlices pairs counts islands }

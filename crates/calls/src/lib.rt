@@ -4,8 +4,6 @@ use held::Tree;
 use pairs::Link;
 use reading::Refusal;
 use reading::Step;
-use reading::TableRead;
-use reading::TreeRead;
 use sheet::Sheet;
 ghost use mathlib.Core.Path.{_≡_};
 ghost use mathlib.Core.Bool.{_&&_};
@@ -14,14 +12,14 @@ ghost use lib.Dec.{leb};
 ghost use lib.ListN.{length};
 ghost use Rattle.meaning.specs.Tree.{Tree as Topology};
 ghost use Rattle.meaning.specs.Reading.{got, readTree};
-ghost use Rattle.meaning.specs.Calls.{lent, limited, answered, formCall, cutCall, beside, PairCall, tableRead, tableCall, GraphBy, GraphCall, InterchangeCall};
+ghost use Rattle.meaning.specs.Calls.{formCall, cutCall, beside, PairCall, tableCall, GraphBy, GraphCall, InterchangeCall, IslandsCall};
 ghost use Rattle.meaning.specs.Sheet.{SheetCall};
 ghost use Rattle.held.specs.Held.{nodes};
 ghost use Rattle.held.specs.Kept.{Keeps, Kept};
 ghost use Rattle.pairs.specs.Link.{Linked};
 ghost use Rattle.graph.specs.Graph.{slices};
-ghost use Rattle.calls.specs.Paper.{textOutcome, pairAnswer, tableOutcome, graphOutcome};
-ghost use Rattle.calls.specs.Lent.{withheld, TreeLent, TableLent, CutRoom, cutText};
+ghost use Rattle.calls.specs.Paper.{textOutcome, pairAnswer, tableOutcome, graphOutcome, islandSlices, islandsOutcome};
+ghost use Rattle.calls.specs.Cuts.{CutRoom, cutText};
 ghost use Rattle.calls.specs.Paired.{Answers};
 ghost use Rattle.calls.specs.Tabled.{textSlices, TableRoom, TableWritten};
 
@@ -52,38 +50,11 @@ fn enough(least: usize, len: usize, others: bool) -> bool
     others
 }
 
-// The line for which a call reads nothing of s: its slices are too short, or s is too long. 0 where it reads.
-fn withheld(s: &[u8], fits: bool) -> u8
-    ensures { λ r. ⌜ r ≡ withheld fits (length (now (s .entry))) ⌝ }
-{
-    if !fits {
-        return Refusal::SHORT_SLICE;
-    }
-    if Tree::TEXT_BYTES < s.len() {
-        return Refusal::LONG_TEXT;
-    }
-    0
-}
-
-// The one tree of s, for a call that is lent enough or not.
-fn read_lent(s: &[u8], fits: bool) -> TreeRead
-    ensures { λ r. ⌜ TreeLent r (lent fits (limited 0 (now (s .entry)) (answered 0 (readTree (now (s .entry)))))) ⌝ }
-{
-    let line = withheld(s, fits);
-    if line != 0 {
-        return TreeRead {
-            step: reading::refuse(line, 0),
-            tree: Tree::empty(),
-        };
-    }
-    reading::read_tree(s)
-}
-
 // Form call: the canonical text of the one tree of s, from the start of out on.
 pub fn form_call(s: &[u8], out: &mut [u8]) -> TextAnswer
     ensures { λ r. ⌜ textOutcome r (now (out .exit)) ≡ formCall (now (s .entry)) (now (out .entry)) ⌝ }
 {
-    let read = read_lent(s, enough(Tree::FORM_BYTES, out.len(), true));
+    let read = reading::read_lent(s, enough(Tree::FORM_BYTES, out.len(), true));
     let step = read.step;
     match step {
         Step::Refused(x) => TextAnswer::Refused(x),
@@ -106,7 +77,7 @@ fn write_cut(out: &mut [u8], tree: Tree, count: usize, cut: usize) -> TextAnswer
 pub fn cut_call(s: &[u8], cut: usize, out: &mut [u8]) -> TextAnswer
     ensures { λ r. ⌜ textOutcome r (now (out .exit)) ≡ cutCall (now (s .entry)) cut (now (out .entry)) ⌝ }
 {
-    let read = read_lent(s, enough(Tree::FOREST_BYTES, out.len(), true));
+    let read = reading::read_lent(s, enough(Tree::FOREST_BYTES, out.len(), true));
     let step = read.step;
     match step {
         Step::Refused(x) => TextAnswer::Refused(x),
@@ -189,20 +160,6 @@ pub enum TableAnswer {
     Refused(Refusal),
 }
 
-// The trees of s, for a call that is lent enough or not.
-fn read_lent_table(s: &[u8], fits: bool) -> TableRead
-    ensures { λ r. ⌜ TableLent r (lent fits (tableRead (now (s .entry)))) ⌝ }
-{
-    let line = withheld(s, fits);
-    if line != 0 {
-        return TableRead {
-            step: reading::refuse(line, 0),
-            table: Table::empty(),
-        };
-    }
-    reading::read_table(s)
-}
-
 // Writes the canonical texts of a table one after another, and the end of each; returns the end of the last.
 fn write_texts(texts: &mut [u8], ends: &mut [u32], table: Table) -> usize
     requires { ⌜ TableRoom table (textSlices (now texts) (now ends)) ⌝ }
@@ -223,7 +180,7 @@ pub fn table_call(s: &[u8], texts: &mut [u8], ends: &mut [u32]) -> TableAnswer
         ≡ tableCall (now (s .entry)) (textSlices (now (texts .entry)) (now (ends .entry))) ⌝ }
 {
     let ends_fit = enough(Table::MAX_TREES, ends.len(), true);
-    let read = read_lent_table(s, enough(Table::TEXT_BYTES, texts.len(), ends_fit));
+    let read = reading::read_lent_table(s, enough(Table::TEXT_BYTES, texts.len(), ends_fit));
     let step = read.step;
     match step {
         Step::Refused(x) => TableAnswer::Refused(x),
@@ -231,7 +188,7 @@ pub fn table_call(s: &[u8], texts: &mut [u8], ends: &mut [u32]) -> TableAnswer
     }
 }
 
-// What the graph call answers: the numbers of trees and of pairs, or why it refuses.
+// What the graph calls answer: the numbers of trees and of pairs, or why it refuses.
 pub enum GraphAnswer {
     Listed(usize, usize),
     Refused(Refusal),
@@ -244,7 +201,7 @@ fn list_linked(s: &[u8], pairs: &mut [u16], counts: &mut [u16], by: Link) -> Gra
         (graphOutcome r (now (pairs .exit)) (now (counts .exit))) ⌝ }
 {
     let counts_fit = enough(Table::MAX_TREES, counts.len(), true);
-    let read = read_lent_table(s, enough(Table::PAIR_NUMBERS, pairs.len(), counts_fit));
+    let read = reading::read_lent_table(s, enough(Table::PAIR_NUMBERS, pairs.len(), counts_fit));
     let step = read.step;
     match step {
         Step::Refused(x) => GraphAnswer::Refused(x),
@@ -271,6 +228,30 @@ pub fn interchange_call(s: &[u8], pairs: &mut [u16], counts: &mut [u16]) -> Grap
         (graphOutcome r (now (pairs .exit)) (now (counts .exit))) ⌝ }
 {
     list_linked(s, pairs, counts, Link::Interchange)
+}
+
+// Islands call: the graph call's pairs and counts, and for each tree the number of its island.
+pub fn islands_call(
+    s: &[u8],
+    pairs: &mut [u16],
+    counts: &mut [u16],
+    islands: &mut [u16],
+) -> GraphAnswer
+    ensures { λ r. ⌜
+        IslandsCall (now (s .entry)) (islandSlices (now (pairs .entry)) (now (counts .entry)) (now (islands .entry)))
+        (islandsOutcome r (now (pairs .exit)) (now (counts .exit)) (now (islands .exit))) ⌝ }
+{
+    let islands_fit = enough(Table::MAX_TREES, islands.len(), true);
+    let counts_fit = enough(Table::MAX_TREES, counts.len(), islands_fit);
+    let read = reading::read_lent_table(s, enough(Table::PAIR_NUMBERS, pairs.len(), counts_fit));
+    let step = read.step;
+    match step {
+        Step::Refused(x) => GraphAnswer::Refused(x),
+        Step::Next(_, count) => GraphAnswer::Listed(
+            count,
+            graph::list_islands(pairs, counts, islands, read.table),
+        ),
+    }
 }
 
 // Sheet call: what the pair lister prints for s, from the start of out on; a text that is refused has its line printed.

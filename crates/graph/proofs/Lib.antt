@@ -1,3 +1,5 @@
 pub mod Bytes
+pub mod Listed
 pub mod Stores
 pub mod Turns
+pub mod Unite

@@ -1,5 +1,8 @@
-// The graph of a table: which of its positions are linked, and listing and counting the linked positions.
+// The graph of a table: which of its positions are linked, listing and counting the linked positions, and its islands.
+pub mod islands;
+
 use held::Table;
+pub use islands::list_islands;
 use pairs::Link;
 ghost use mathlib.Core.Path.{_≡_};
 ghost use Prim.Native.Nat.{_≤_, _<_};

@@ -2,15 +2,15 @@
 -- Assumes nothing.
 use mathlib.Core.Path.{_≡_, refl, sym, ap, ap₂, subst, subst₂, _∙_}
 use mathlib.Core.List.{List, [], _∷_, _++_, map}
-use Prim.Native.Nat.{ℕ, suc, _+_, _≤_, _<_}
+use Prim.Native.Nat.{ℕ, suc, _+_, _-_, _≤_, _<_}
 use native.Mathlib.Nat.{add-zero, zero-add}
 use native.Mathlib.Omega.{arith}
 use native.Mathlib.Numerals.{add-one}
 use lib.ListN.{length, take, drop, getD, set, replicate, replicate-append-replicate, length-append, length-drop, List·getD-append}
-use lib.Seq.{set-comm, take-suc, drop-drop, drop-append-seam, getD-drop, sets, sets-eq, length-sets}
+use lib.Seq.{set-comm, take-suc, drop-drop, drop-append-seam, getD-drop, getD-append-add, take-at, drop-at, sets, sets-eq, length-sets}
 use Rattle.meaning.specs.Lists.{positions}
 use Rattle.meaning.proofs.Sums.{map-suc}
-use Rattle.lent.specs.Runs.{Wrote}
+use Rattle.lent.specs.Runs.{Stands, Wrote}
 
 module _ {A : Type 0} where
   -- a list that from k on begins with y
@@ -65,6 +65,45 @@ module _ {A : Type 0} where
 
   pub wrote-length : {ys out o₁ : List A} {at r₁ : ℕ} → Wrote ys out o₁ at r₁ → length o₁ ≡ length out
   wrote-length {ys} {out} {at} p = ap length (p .cells) ∙ length-sets out at ys
+
+  -- what was written from the start on stands there
+  pub starts-with : {ys out o₁ : List A} {r : ℕ} → Wrote ys out o₁ 0 r → length ys ≤ length out → Stands o₁ 0 ys
+  starts-with {ys} {out} w fits = (drop (length ys) out, w .cells ∙ sets-start out ys fits)
+
+  module _ {ys out out′ : List A} {r : ℕ} (w : Wrote ys out out′ 0 r) (fits : r ≤ length out) where
+    long : length ys ≡ r
+    long = omega (arith, w .behind)
+
+    run-first : out′ ≡ ys ++ drop r out
+    run-first = w .cells ∙ sets-start out ys (omega (arith, long)) ∙ ap (λ (k : ℕ). ys ++ drop k out) long
+
+    pub written-first : take r out′ ≡ ys
+    written-first = ap (take r) run-first ∙ take-at ys (drop r out) r long
+
+    -- nothing is changed behind it
+    pub same-behind : (d : A) (i : ℕ) → r ≤ i → getD out′ i d ≡ getD out i d
+    same-behind d i h =
+        let e : length ys + (i - r) ≡ i = omega (arith, long) in
+        let f : r + (i - r) ≡ i = omega arith in
+        ap (λ (l : List A). getD l i d) run-first ∙ ap (λ (k : ℕ). getD (ys ++ drop r out) k d) (sym e)
+        ∙ getD-append-add ys (drop r out) (i - r) d ∙ getD-drop r out (i - r) d ∙ ap (λ (k : ℕ). getD out k d) f
+
+    -- it may be written once more
+    pub written-again : Wrote ys out′ out′ 0 r
+    written-again = record {
+      behind = w .behind;
+      cells = sym (sets-start out′ ys (omega (arith, long, wrote-length w)) ∙ ap (λ (k : ℕ). ys ++ drop k out′) long
+          ∙ ap (λ (l : List A). ys ++ l) (ap (drop r) run-first ∙ drop-at ys (drop r out) r long) ∙ sym run-first);
+    }
+
+    -- as much written again from the start on
+    pub written-over : {zs out″ : List A} → length zs ≡ r → Wrote zs out′ out″ 0 r → Wrote zs out out″ 0 r
+    written-over {zs} e w′ = record {
+      behind = w′ .behind;
+      cells =
+          w′ .cells ∙ sets-start out′ zs (omega (arith, wrote-length w)) ∙ ap (λ (k : ℕ). zs ++ drop k out′) e
+          ∙ ap (λ (l : List A). zs ++ l) (ap (drop r) run-first ∙ drop-at ys (drop r out) r long) ∙ sym (sets-start out zs (omega arith) ∙ ap (λ (k : ℕ). zs ++ drop k out) e);
+    }
 
   -- one element more of a copy
   pub copy-step : (d : A) (n : List A) (from i : ℕ) {out₀ out : List A} {at : ℕ} → from + i < length n → Wrote (take i (drop from n)) out₀ out at (at + i)

@@ -1,13 +1,13 @@
--- Counting how often each number occurs: nothing is counted, one number more is, and no place grows by more than there are numbers.
+-- Counting how often each number occurs: nothing is counted, one number more is, and no place grows by more than there are numbers; counting from zero on.
 -- Assumes nothing.
 use mathlib.Core.Path.{_≡_, refl, ap}
 use mathlib.Core.Bool.{Bool, true, false}
 use mathlib.Core.List.{List, [], _∷_, _++_}
-use Prim.Native.Nat.{ℕ, _+_, _≤_, _<_}
+use Prim.Native.Nat.{ℕ, zero, suc, _+_, _≤_, _<_}
 use native.Mathlib.Numerals.{add-one}
 use native.Mathlib.Omega.{arith}
 use lib.Dec.{eqb}
-use lib.ListN.{length, take, getD, length-set}
+use lib.ListN.{length, take, getD, replicate, length-set, length-replicate}
 use lib.Seq.{take-suc, length-take-le}
 use Rattle.meaning.specs.Lists.{count, bit, more}
 use Rattle.meaning.proofs.Sums.{count-append}
@@ -22,7 +22,7 @@ bit-le : (b : Bool) → bit b ≤ 1
 bit-le true = omega arith
 bit-le false = omega arith
 
-count-le : (test : ℕ → Bool) (xs : List ℕ) → count test xs ≤ length xs
+pub count-le : (test : ℕ → Bool) (xs : List ℕ) → count test xs ≤ length xs
 count-le test [] = omega arith
 count-le test (x ∷ xs) = omega (arith, bit-le (test x), count-le test xs)
 
@@ -44,3 +44,19 @@ module _ {numbers tallies tallies′ : List ℕ} {n : ℕ} (room : TallyRoom tal
         let more-taken : take (i + 1) numbers ≡ take i numbers ++ (v ∷ []) = rw (add-one, take-suc numbers i 0 inside) in
         omega (arith, more-at tallies′ v x turn-place, t .each x, ap (count (λ y. eqb y x)) more-taken, count-append (λ y. eqb y x) (take i numbers) (v ∷ []));
   }
+
+-- ---- counted from zero on, in k places
+zeros-at : (k x : ℕ) → _≡_ {A = ℕ} (getD (replicate k 0) x 0) 0
+zeros-at zero x = refl
+zeros-at (suc k) zero = refl
+zeros-at (suc k) (suc x) = zeros-at k x
+
+pub zeros-room : (k : ℕ) {numbers : List ℕ} {n : ℕ} → n ≤ length numbers → n < 65536 → ((i : ℕ) → i < n → getD numbers i 0 < k) → TallyRoom (replicate k 0) numbers n
+zeros-room k long few below = record {
+  lent = long;
+  places = λ i h. omega (arith, below i h, length-replicate {A = ℕ} k 0);
+  grow = λ x. omega (arith, zeros-at k x, few);
+}
+
+pub zeros-tallied : (k : ℕ) {xs tallies : List ℕ} → Tallied xs (replicate k 0) tallies → (x : ℕ) → getD tallies x 0 ≡ count (λ y. eqb y x) xs
+zeros-tallied k t x = omega (arith, t .each x, zeros-at k x)

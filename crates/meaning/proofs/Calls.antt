@@ -20,14 +20,17 @@ use Rattle.meaning.specs.Grammar.{OneText, TableText}
 use Rattle.meaning.specs.Listing.{Pair, Listing, At, treeOf}
 use Rattle.meaning.specs.Loops.{pairsOf}
 use Rattle.meaning.specs.Decide.{apart?, oneInterchange?}
-use Rattle.meaning.specs.Answer.{Answer, accepted, refusal, Outcome, TableMemory, GraphSize, GraphMemory, textOf, onward, conclude}
-use Rattle.meaning.specs.Calls.{enough, lent, limited, answered, formSlices, formRead, hasCut, cutSlices, cutRead, together, beside, pairRead, PairCall, is-apart, not-apart, tableRead, tableSlices, tableCallRead, graphSlices, graphRead, GraphCall, GraphBy, graphOf, lists, InterchangeCall}
-use Rattle.meaning.specs.Sheet.{Sheet, prints, sheet, refusalLine, sheetSlices, sheetGiven, SheetCall, gives}
+use Rattle.meaning.specs.Islands.{Joined, Islands, islandsOf}
+use Rattle.meaning.specs.Answer.{Answer, accepted, refusal, Outcome, TableMemory, GraphSize, GraphMemory, IslandsMemory, textOf, onward, conclude}
+use Rattle.meaning.specs.Calls.{enough, lent, limited, answered, formSlices, formRead, hasCut, cutSlices, cutRead, together, beside, pairRead, PairCall, is-apart, not-apart, tableRead, tableSlices, tableCallRead, graphSlices, graphRead, GraphCall, GraphBy, graphOf, lists, InterchangeCall, islandsSlices, islandsRead, islandGraphOf, IslandsCall, numbers}
+use Rattle.meaning.specs.Sheet.{refusalLine, Printout, prints, sheet, shows-pairs, Sheet, sheetSlices, sheetGiven, SheetCall, gives}
+use Rattle.meaning.specs.IslandSheet.{islandLines, shows-islands, IslandSheet}
 use Rattle.meaning.proofs.Logic.{clash, cases}
 use Rattle.meaning.proofs.Lists.{one-of, Among, among}
 use Rattle.meaning.proofs.Decide.{apart-iff}
 use Rattle.meaning.proofs.Interchanges.{oneInterchange-iff}
 use Rattle.meaning.proofs.Listing.{listing-iff, pairsOf-lists}
+use Rattle.meaning.proofs.Islands.{listing-within, islands-found}
 use Rattle.meaning.proofs.Sound.{read-iff, read-good, read-behind}
 use Rattle.meaning.proofs.Alike.{unlike-iff, unlike-line}
 use Rattle.meaning.proofs.TableText.{good-at, table-iff, table-good}
@@ -152,6 +155,9 @@ table-call-tells s memory = lent-table-tells (enough (tableSlices memory)) s
 pub graph-tells : (s : List ℕ) (memory : GraphMemory) → Tells (λ ts. AllGood ts × TableText ts s) (Line tableCallRefusals s) (graphRead s memory)
 graph-tells s memory = lent-table-tells (enough (graphSlices memory)) s
 
+pub islands-tells : (s : List ℕ) (memory : IslandsMemory) → Tells (λ ts. AllGood ts × TableText ts s) (Line tableCallRefusals s) (islandsRead s memory)
+islands-tells s memory = lent-table-tells (enough (islandsSlices memory)) s
+
 -- the sheet call: what is printed; or line 7, of text 0 at place 0, as of a text without bytes
 pub sheet-call-tells : (x out : List ℕ) → Tells (λ y. y ≡ x) (Line sheetCallRefusals []) (sheetGiven x out)
 sheet-call-tells x out = lent-tells (enough (sheetSlices out)) (at-zero tt) (accepts refl)
@@ -201,12 +207,35 @@ graph-exists = graph-by-exists Apart apart? apart-iff
 pub interchange-exists : (s : List ℕ) (memory : GraphMemory) → (o : Outcome GraphSize GraphMemory) × InterchangeCall s memory o
 interchange-exists = graph-by-exists OneInterchange oneInterchange? oneInterchange-iff
 
-pub sheet-exists : (s : List ℕ) → (x : List ℕ) × Sheet s x
-sheet-exists s = by (tableRead s) refl
+-- the islands of the pairs that are one move apart
+abbrev islandsIn : List Tree → List ℕ
+islandsIn ts = islandsOf (length ts) (pairsIn ts)
+
+islands-in : (ts : List Tree) → AllGood ts → Listing (length ts) (At Apart ts) (pairsIn ts) × Islands (length ts) (Joined (pairsIn ts)) (islandsIn ts)
+islands-in ts g = let L = listed-by Apart apart? apart-iff ts g in (L, islands-found (length ts) (pairsIn ts) (listing-within L))
+
+pub islands-exists : (s : List ℕ) (memory : IslandsMemory) → (o : Outcome GraphSize IslandsMemory) × IslandsCall s memory o
+islands-exists s memory = by (islandsRead s memory) refl
   where
-    by : (a : Answer (List Tree)) → tableRead s ≡ a → (x : List ℕ) × Sheet s x
-    by (accepted ts) e = (sheet ts (pairsIn ts), prints ts (pairsIn ts) e (listed-by Apart apart? apart-iff ts (tells-accepted (table-tells s) e .0)))
-    by (refusal n i p) e = (refusalLine n p, Sheet.refuses n i p e)
+    by : (a : Answer (List Tree)) → islandsRead s memory ≡ a → (o : Outcome GraphSize IslandsMemory) × IslandsCall s memory o
+    by (accepted ts) e =
+        let (L, I) = islands-in ts (tells-accepted (islands-tells s memory) e .0) in
+        (islandGraphOf ts (pairsIn ts) (islandsIn ts) memory, numbers ts (pairsIn ts) (islandsIn ts) e L I)
+    by (refusal n i p) e = (record { answer = refusal n i p; memory = memory }, IslandsCall.refuses n i p e)
+
+-- a program prints something for every text, where it does for good trees
+printout-exists : {Prints : List Tree → List ℕ → Type 0} → ((ts : List Tree) → AllGood ts → (x : List ℕ) × Prints ts x) → (s : List ℕ) → (x : List ℕ) × Printout Prints s x
+printout-exists {Prints} some s = by (tableRead s) refl
+  where
+    by : (a : Answer (List Tree)) → tableRead s ≡ a → (x : List ℕ) × Printout Prints s x
+    by (accepted ts) e = let (x, P) = some ts (tells-accepted (table-tells s) e .0) in (x, prints ts x e P)
+    by (refusal n i p) e = (refusalLine n p, Printout.refuses n i p e)
+
+pub sheet-exists : (s : List ℕ) → (x : List ℕ) × Sheet s x
+sheet-exists = printout-exists (λ ts g. (sheet ts (pairsIn ts), shows-pairs (pairsIn ts) (listed-by Apart apart? apart-iff ts g)))
+
+pub island-sheet-exists : (s : List ℕ) → (x : List ℕ) × IslandSheet s x
+island-sheet-exists = printout-exists (λ ts g. let (L, I) = islands-in ts g in (islandLines (islandsIn ts), shows-islands (pairsIn ts) (islandsIn ts) L I))
 
 pub sheet-call-exists : (s out : List ℕ) → (o : Outcome ℕ (List ℕ)) × SheetCall s out o
 sheet-call-exists s out = let (x, h) = sheet-exists s in (conclude (sheetGiven x out) out (λ y. textOf y out), gives x h)

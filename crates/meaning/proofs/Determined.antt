@@ -1,6 +1,6 @@
 -- Each call's outcome is determined: two outcomes that its promise allows are equal, answer and memory.
 -- Assumes nothing.
-use mathlib.Core.Path.{_≡_, refl, sym, ap, ap₂, subst, _∙_}
+use mathlib.Core.Path.{_≡_, refl, sym, ap, ap₂, subst, subst₂, _∙_}
 use mathlib.Core.Bool.{Bool}
 use mathlib.Core.List.{List}
 use Prim.Native.Nat.{ℕ}
@@ -8,11 +8,14 @@ use lib.ListN.{length}
 use Rattle.meaning.specs.Tree.{Tree}
 use Rattle.meaning.specs.Move.{Apart}
 use Rattle.meaning.specs.Listing.{Pair, Listing, At}
-use Rattle.meaning.specs.Answer.{Answer, accepted, refusal, Outcome, TableSize, TableMemory, GraphSize, GraphMemory, textOf, conclude}
-use Rattle.meaning.specs.Calls.{formCall, cutCall, PairCall, is-apart, not-apart, refuses, tableCall, GraphBy, lists, graphOf}
-use Rattle.meaning.specs.Sheet.{Sheet, prints, sheet, refusalLine, sheetGiven, SheetCall, gives}
+use Rattle.meaning.specs.Islands.{Joined, Islands}
+use Rattle.meaning.specs.Answer.{Answer, accepted, refusal, Outcome, TableSize, TableMemory, GraphSize, GraphMemory, IslandsMemory, textOf, conclude}
+use Rattle.meaning.specs.Calls.{formCall, cutCall, PairCall, is-apart, not-apart, refuses, tableCall, GraphBy, lists, graphOf, IslandsCall, numbers, islandGraphOf}
+use Rattle.meaning.specs.IslandSheet.{IslandSheetOf, shows-islands, IslandSheet, islandLines}
+use Rattle.meaning.specs.Sheet.{refusalLine, Printout, prints, sheet, SheetOf, shows-pairs, Sheet, sheetGiven, SheetCall, gives}
 use Rattle.meaning.proofs.Logic.{clash}
 use Rattle.meaning.proofs.Listing.{listing-unique}
+use Rattle.meaning.proofs.Islands.{islands-unique}
 
 pub form-determined : (s out : List ℕ) (o o′ : Outcome ℕ (List ℕ)) → o ≡ formCall s out → o′ ≡ formCall s out → o ≡ o′
 form-determined s out o o′ e f = e ∙ sym f
@@ -60,11 +63,42 @@ graph-determined (lists ts ps e L) (GraphBy.refuses n i p e′) = absurd (not-bo
 graph-determined (GraphBy.refuses n i p e) (lists ts ps e′ L) = absurd (not-both e′ e)
 graph-determined (GraphBy.refuses n i p e) (GraphBy.refuses n′ i′ p′ e′) = let (x, y, z) = same-refusal e e′ in cc
 
+-- and its positions have one number each
+same-islands : {a : Answer (List Tree)} {ts us : List Tree} {ps qs : List Pair} {ms ns : List ℕ} → a ≡ accepted ts → a ≡ accepted us
+    → Listing (length ts) (At Apart ts) ps → Listing (length us) (At Apart us) qs → Islands (length ts) (Joined ps) ms → Islands (length us) (Joined qs) ns → ms ≡ ns
+same-islands {ms} e f L M I K =
+    let (h, k) = same-listing Apart e f L M in
+    islands-unique (subst₂ (λ (vs : List Tree) (rs : List Pair). Islands (length vs) (Joined rs) ms) h k I) K
+
+pub islands-determined : {s : List ℕ} {memory : IslandsMemory} {o o′ : Outcome GraphSize IslandsMemory} → IslandsCall s memory o → IslandsCall s memory o′ → o ≡ o′
+islands-determined {memory} (numbers ts ps ms e L I) (numbers ts′ ps′ ms′ e′ L′ I′) =
+    let (h, k) = same-listing Apart e e′ L L′ in
+    ap₂ (λ (vs : List Tree) (qs : List Pair). islandGraphOf vs qs ms memory) h k ∙ ap (λ (ns : List ℕ). islandGraphOf ts′ ps′ ns memory) (same-islands e e′ L L′ I I′)
+islands-determined (numbers ts ps ms e L I) (IslandsCall.refuses n i p e′) = absurd (not-both e e′)
+islands-determined (IslandsCall.refuses n i p e) (numbers ts ps ms e′ L I) = absurd (not-both e′ e)
+islands-determined (IslandsCall.refuses n i p e) (IslandsCall.refuses n′ i′ p′ e′) = let (x, y, z) = same-refusal e e′ in cc
+
+-- what is printed for a text is one, where what is printed for trees is
+module _ {Prints : List Tree → List ℕ → Type 0} (one : (ts : List Tree) (x y : List ℕ) → Prints ts x → Prints ts y → x ≡ y) where
+  printout-determined : {s x y : List ℕ} → Printout Prints s x → Printout Prints s y → x ≡ y
+  printout-determined (prints ts x e P) (prints us y f Q) = one us x y (subst (λ (vs : List Tree). Prints vs x) (same-accepted e f) P) Q
+  printout-determined (prints ts x e P) (Printout.refuses n i p f) = absurd (not-both e f)
+  printout-determined (Printout.refuses n i p e) (prints us y f Q) = absurd (not-both f e)
+  printout-determined (Printout.refuses n i p e) (Printout.refuses m j q f) = let (x, y, z) = same-refusal e f in ap₂ refusalLine x z
+
+sheet-one : (ts : List Tree) (x y : List ℕ) → SheetOf ts x → SheetOf ts y → x ≡ y
+sheet-one ts x y (shows-pairs ps L) (shows-pairs qs M) = ap (sheet ts) (listing-unique L M)
+
 pub sheet-determined : {s x y : List ℕ} → Sheet s x → Sheet s y → x ≡ y
-sheet-determined (prints ts ps e L) (prints ts′ ps′ e′ L′) = let (h, k) = same-listing Apart e e′ L L′ in ap₂ sheet h k
-sheet-determined (prints ts ps e L) (Sheet.refuses n i p e′) = absurd (not-both e e′)
-sheet-determined (Sheet.refuses n i p e) (prints ts ps e′ L) = absurd (not-both e′ e)
-sheet-determined (Sheet.refuses n i p e) (Sheet.refuses n′ i′ p′ e′) = let (x, y, z) = same-refusal e e′ in ap₂ refusalLine x z
+sheet-determined h k = printout-determined sheet-one h k
+
+island-sheet-one : (ts : List Tree) (x y : List ℕ) → IslandSheetOf ts x → IslandSheetOf ts y → x ≡ y
+island-sheet-one ts x y (shows-islands ps ms L I) (shows-islands qs ns M J) =
+    let e : accepted ts ≡ accepted ts = refl in
+    ap islandLines (same-islands e e L M I J)
+
+pub island-sheet-determined : {s x y : List ℕ} → IslandSheet s x → IslandSheet s y → x ≡ y
+island-sheet-determined h k = printout-determined island-sheet-one h k
 
 pub sheet-call-determined : {s out : List ℕ} {o o′ : Outcome ℕ (List ℕ)} → SheetCall s out o → SheetCall s out o′ → o ≡ o′
 sheet-call-determined {out} (gives x h) (gives y k) = ap (λ (z : List ℕ). conclude (sheetGiven z out) out λ w. textOf w out) (sheet-determined h k)

@@ -1,4 +1,4 @@
--- Lines 7 and 8, for any number of lent slices and any text.
+-- Lines 7 and 8, for any number of lent slices and any text; and what is accepted.
 -- Assumes nothing.
 use mathlib.Core.Path.{_≡_, refl}
 use mathlib.Core.Logic.{_⊎_, inl, inr}
@@ -9,7 +9,7 @@ use borrow.Author.Tests.{leb-true, le-leb, lt-leb, lt-ltb, le-ltb}
 use lib.Dec.{leb}
 use lib.ListN.{length}
 use Rattle.meaning.specs.Limits.{textBytes}
-use Rattle.meaning.specs.Answer.{Answer, accepted, refusal}
+use Rattle.meaning.specs.Answer.{Answer, accepted, refusal, Outcome, conclude}
 use Rattle.meaning.specs.Calls.{Slice, enough, lent, limited}
 use Rattle.meaning.proofs.Logic.{clash, and-left, and-right, cases}
 
@@ -64,3 +64,7 @@ module _ {A : Type 0} (i : ℕ) (s : List ℕ) (a : Answer A) where
 
   pub in-limit : length s ≤ textBytes → limited i s a ≡ a
   in-limit h = rw (le-ltb textBytes (length s) h)
+
+-- a call goes on with what was accepted
+pub concluded : {A B M : Type 0} {a : Answer A} {x : A} (memory : M) (done : A → Outcome B M) → a ≡ accepted x → done x ≡ conclude a memory done
+concluded memory done e = rw e

@@ -12,6 +12,7 @@ pub mod Digits
 pub mod Forests
 pub mod Interchange
 pub mod Interchanges
+pub mod Islands
 pub mod LabelBits
 pub mod Labels
 pub mod Length

@@ -10,14 +10,14 @@ use Rattle.meaning.specs.Limits.{formBytes, forestBytes, sheetBytes}
 use Rattle.meaning.specs.Tree.{Tree, AllGood, form, forms}
 use Rattle.meaning.specs.Move.{cutAt, forest}
 use Rattle.meaning.specs.Listing.{counts, flat}
-use Rattle.meaning.specs.Answer.{Answer, accepted, refusal, Outcome, TableMemory, GraphSize, GraphMemory, written, textOf, conclude}
-use Rattle.meaning.specs.Calls.{enough, lent, formCall, cutCall, tableRead, ends, tableSlices, tableCallRead, tableOf, tableCall, graphSlices, GraphBy, lists}
+use Rattle.meaning.specs.Answer.{Answer, accepted, refusal, Outcome, TableMemory, GraphSize, GraphMemory, IslandsMemory, written, textOf, conclude}
+use Rattle.meaning.specs.Calls.{enough, lent, formCall, cutCall, tableRead, ends, tableSlices, tableCallRead, tableOf, tableCall, graphSlices, GraphBy, lists, islandsSlices, IslandsCall, numbers}
 use Rattle.meaning.specs.Sheet.{Sheet, SheetCall, gives}
 use Rattle.meaning.proofs.Length.{form-length, forest-length}
 use Rattle.meaning.proofs.Forests.{cutAt-good}
 use Rattle.meaning.proofs.Lent.{lent-ample}
 use Rattle.meaning.proofs.Counts.{counts-length, flat-few}
-use Rattle.meaning.proofs.Calls.{tells-accepted, form-tells, cut-tells, table-call-tells, graph-tells, sheet-call-tells}
+use Rattle.meaning.proofs.Calls.{tells-accepted, form-tells, cut-tells, table-call-tells, graph-tells, islands-tells, sheet-call-tells}
 
 -- a slice keeps its length where what is written fits
 pub written-length : (xs slice : List ℕ) → length xs ≤ length slice → length (written xs slice) ≡ length slice
@@ -89,6 +89,18 @@ graph-memory s memory o (lists ts ps e L) =
     let r = tells-accepted (graph-tells s memory) e in
     let room = lent-ample (graphSlices memory) (tableRead s) e in
     (written-length (flat ps) (memory .pairs) (omega (arith, flat-few L (r .1 .few))), written-length (counts (length ts) ps) (memory .counts) (omega (arith, counts-length (length ts) ps)))
+
+pub islands-memory : (s : List ℕ) (memory : IslandsMemory) (o : Outcome GraphSize IslandsMemory) → IslandsCall s memory o
+    → (length (o .memory .graph .pairs) ≡ length (memory .graph .pairs)) × (length (o .memory .graph .counts) ≡ length (memory .graph .counts))
+    × (length (o .memory .islands) ≡ length (memory .islands))
+islands-memory s memory o (IslandsCall.refuses n i p e) = (refl, refl, refl)
+islands-memory s memory o (numbers ts ps ms e L I) =
+    let r = tells-accepted (islands-tells s memory) e in
+    let room = lent-ample (islandsSlices memory) (tableRead s) e in (
+      written-length (flat ps) (memory .graph .pairs) (omega (arith, flat-few L (r .1 .few))),
+      written-length (counts (length ts) ps) (memory .graph .counts) (omega (arith, counts-length (length ts) ps)),
+      written-length ms (memory .islands) (omega (arith, I .many, r .1 .few)),
+    )
 
 -- where no sheet is longer than stated
 pub sheet-memory : {s out : List ℕ} {o : Outcome ℕ (List ℕ)} → ((x : List ℕ) → Sheet s x → length x ≤ sheetBytes) → SheetCall s out o → length (o .memory) ≡ length out

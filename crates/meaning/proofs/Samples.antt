@@ -1,4 +1,4 @@
--- The starred samples of document 01 hold.
+-- The starred samples of document 01 hold, and a sheet of islands.
 -- Assumes nothing.
 use mathlib.Core.Path.{_≡_, refl, subst}
 use mathlib.Core.Bool.{not}
@@ -18,11 +18,14 @@ use Rattle.meaning.specs.Listing.{Pair, Listing, At, treeOf}
 use Rattle.meaning.specs.Decide.{distinct?, apart?}
 use Rattle.meaning.specs.Answer.{accepted}
 use Rattle.meaning.specs.Calls.{is-apart, not-apart, lists, tableRead}
-use Rattle.meaning.specs.Sheet.{Sheet, prints, twoFields, treeLine, treeLines, pairLines, sheet}
+use Rattle.meaning.specs.Sheet.{Sheet, prints, shows-pairs, twoFields, treeLine, treeLines, pairLines, sheet}
+use Rattle.meaning.specs.Islands.{islandsOf}
+use Rattle.meaning.specs.IslandSheet.{linesFrom, islandLines, shows-islands, IslandSheet}
 use Rattle.meaning.specs.Samples.{AllHold, samples}
 use Rattle.meaning.proofs.Decide.{distinct-iff, apart-iff}
 use Rattle.meaning.specs.Loops.{each, rowOf, pairsFrom}
 use Rattle.meaning.proofs.Calls.{pairsIn, listing-by}
+use Rattle.meaning.proofs.Islands.{listing-within, islands-found}
 
 -- a pair is decided by computation
 pub near : (t u : Tree) → T (distinct? t) → T (distinct? u) → T (apart? t u) → Apart t u
@@ -120,4 +123,35 @@ unfolding positions twoFields treeLine treeLines pairLines sheet
 output-is = refl
 
 pub sheet-holds : Sheet input output
-sheet-holds = subst (Sheet input) output-is (prints four five four-read five-listed)
+sheet-holds = subst (Sheet input) output-is (prints four (sheet four five) four-read (shows-pairs five five-listed))
+
+-- a sheet of two islands
+abbrev mixed : List ℕ
+mixed = bytes "(((3,4),1),2);\n(((1,2),3),4);\n(1,(2,(3,4)));\n"
+
+abbrev three : List Tree
+three =
+    fork (fork (fork (leaf 3) (leaf 4)) (leaf 1)) (leaf 2)
+    ∷ fork (fork (fork (leaf 1) (leaf 2)) (leaf 3)) (leaf 4)
+    ∷ fork (leaf 1) (fork (leaf 2) (fork (leaf 3) (leaf 4)))
+    ∷ []
+
+abbrev joined : List Pair
+joined = (0, 2) ∷ []
+
+three-read : tableRead mixed ≡ accepted three
+unfolding isBlank isDigit lead past valueAfter value member token badLabel labelAt forkAt nodeAt readNode treeAt readTree within tableFrom readTable
+three-read = refl
+
+joined-listed : Listing 3 (At Apart three) joined
+unfolding pairsFrom rowOf each
+joined-listed = listed three joined (tt, (tt, (tt, tt))) refl
+
+lines-are : islandLines (islandsOf 3 joined) ≡ bytes "island 0 2\nisland 1 1\n"
+unfolding positions twoFields linesFrom
+lines-are = refl
+
+pub islands-hold : IslandSheet mixed (bytes "island 0 2\nisland 1 1\n")
+islands-hold =
+    subst (IslandSheet mixed) lines-are (prints three (islandLines (islandsOf 3 joined)) three-read
+    (shows-islands joined (islandsOf 3 joined) joined-listed (islands-found 3 joined (listing-within joined-listed))))

@@ -1,4 +1,4 @@
--- What the calls answer, in document 01's numbers and values, and what they leave in lent memory. In words: docs/RULES.md, 'The seven calls'.
+-- What the calls answer, in document 01's numbers and values, and what they leave in lent memory. In words: docs/RULES.md, 'The eight calls'.
 -- Assumes nothing.
 use mathlib.Core.List.{List, _++_}
 use Prim.Native.Nat.{ℕ}
@@ -33,6 +33,11 @@ pub record GraphSize : Type 0 where
 pub record GraphMemory : Type 0 where
   pub pairs : List ℕ
   pub counts : List ℕ
+
+-- the slices lent to the islands call: the graph call's, and one for the islands' numbers
+pub record IslandsMemory : Type 0 where
+  pub graph : GraphMemory
+  pub islands : List ℕ
 
 -- a slice with xs written from its start on, and nothing changed behind that
 abbrev pub written : List ℕ → List ℕ → List ℕ

@@ -1,8 +1,8 @@
--- Six of the seven calls (the seventh is in Sheet): from the texts, the cut number and the lent memory at entry to the answer and the memory at exit. In words: docs/RULES.md, 'The seven calls'.
+-- Seven of the eight calls (the eighth is in Sheet): from the texts, the cut number and the lent memory at entry to the answer and the memory at exit. In words: docs/RULES.md, 'The eight calls'.
 -- Assumes nothing.
 use mathlib.Core.Path.{_≡_}
 use mathlib.Core.Bool.{Bool, true, false, cond}
-use mathlib.Core.List.{List, [], _∷_}
+use mathlib.Core.List.{List, [], _∷_, _++_}
 use Prim.Native.Nat.{ℕ, zero, suc, _+_, _-_, _*_}
 use lib.Dec.{leb, ltb}
 use lib.ListN.{length}
@@ -13,7 +13,8 @@ use Rattle.meaning.specs.Move.{cutAt, forest, Apart}
 use Rattle.meaning.specs.Interchange.{OneInterchange}
 use Rattle.meaning.specs.Reading.{Read, got, refused, readTree, readTable, unlike}
 use Rattle.meaning.specs.Listing.{Pair, Listing, At, counts, flat}
-use Rattle.meaning.specs.Answer.{Answer, accepted, refusal, Outcome, TableSize, TableMemory, GraphSize, GraphMemory, written, textOf, onward, conclude}
+use Rattle.meaning.specs.Islands.{Joined, Islands}
+use Rattle.meaning.specs.Answer.{Answer, accepted, refusal, Outcome, TableSize, TableMemory, GraphSize, GraphMemory, IslandsMemory, written, textOf, onward, conclude}
 
 -- a lent slice: the stated size, and its length
 abbrev pub Slice : Type 0
@@ -140,3 +141,23 @@ GraphCall s memory outcome = GraphBy Apart s memory outcome
 -- interchange call: the pairs that are one interchange apart, in the graph call's slices
 abbrev pub InterchangeCall : List ℕ → GraphMemory → Outcome GraphSize GraphMemory → Type 0
 InterchangeCall s memory outcome = GraphBy OneInterchange s memory outcome
+
+-- lent to the islands call: the graph call's slices, and 160 numbers for the islands'
+abbrev pub islandsSlices : IslandsMemory → List Slice
+islandsSlices memory = graphSlices (memory .graph) ++ ((maxTrees, length (memory .islands)) ∷ [])
+
+-- what the islands call reads
+abbrev pub islandsRead : List ℕ → IslandsMemory → Answer (List Tree)
+islandsRead s memory = lent (enough (islandsSlices memory)) (tableRead s)
+
+-- the graph of the trees ts with the pairs ps, and the islands' numbers ms
+abbrev pub islandGraphOf : List Tree → List Pair → List ℕ → IslandsMemory → Outcome GraphSize IslandsMemory
+islandGraphOf ts ps ms memory =
+    let graph : Outcome GraphSize GraphMemory = graphOf ts ps (memory .graph) in
+    record { answer = graph .answer; memory = record { graph = graph .memory; islands = written ms (memory .islands) } }
+
+-- islands call: the graph call's pairs, and for each position the number of its island
+pub data IslandsCall (s : List ℕ) (memory : IslandsMemory) : Outcome GraphSize IslandsMemory → Type 0 where
+  numbers : (ts : List Tree) (ps : List Pair) (ms : List ℕ) → islandsRead s memory ≡ accepted ts → Listing (length ts) (At Apart ts) ps → Islands (length ts) (Joined ps) ms
+      → IslandsCall s memory (islandGraphOf ts ps ms memory)
+  refuses : (n i p : ℕ) → islandsRead s memory ≡ refusal n i p → IslandsCall s memory (record { answer = refusal n i p; memory = memory })

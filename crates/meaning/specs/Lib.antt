@@ -5,6 +5,8 @@ pub mod Clade
 pub mod Decide
 pub mod Grammar
 pub mod Interchange
+pub mod IslandSheet
+pub mod Islands
 pub mod Limits
 pub mod Listing
 pub mod Lists

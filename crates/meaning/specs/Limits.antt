@@ -1,4 +1,4 @@
--- The sizes of document 01, each once. In words: docs/RULES.md, 'Tree text' and 'The six calls'.
+-- The sizes of document 01, each once. In words: docs/RULES.md, 'Tree text' and 'The eight calls'.
 -- Assumes nothing.
 use Prim.Native.Nat.{ℕ, _+_, _-_, _*_, _/_}
 
@@ -49,6 +49,14 @@ treeLineBytes = 38 + formBytes
 -- bytes of the line of a pair
 abbrev pub pairLineBytes : ℕ
 pairLineBytes = 13
+
+-- bytes of the line of an island
+abbrev pub islandLineBytes : ℕ
+islandLineBytes = 15
+
+-- bytes of the longest sheet of islands: a line for each tree
+abbrev pub islandSheetBytes : ℕ
+islandSheetBytes = maxTrees * islandLineBytes
 
 -- bytes of the longest sheet
 abbrev pub sheetBytes : ℕ

@@ -27,7 +27,7 @@ cutRefusals = treeRefusals ++ (7 ∷ 8 ∷ 9 ∷ [])
 abbrev pub pairRefusals : List ℕ
 pairRefusals = treeRefusals ++ unlikeRefusals ++ (8 ∷ [])
 
--- table call and graph call
+-- table call, graph call, interchange call and islands call
 abbrev pub tableCallRefusals : List ℕ
 tableCallRefusals = tableRefusals ++ (7 ∷ 8 ∷ [])
 

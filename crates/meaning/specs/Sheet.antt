@@ -20,6 +20,15 @@ line x = x ++ bytes "\n"
 unfoldable pub twoFields : List ℕ → ℕ → List ℕ → ℕ → List ℕ
 twoFields a n b m = line (a ++ digits n ++ b ++ digits m)
 
+-- a refusal prints only its number and place
+abbrev pub refusalLine : ℕ → ℕ → List ℕ
+refusalLine n p = twoFields (bytes "refused ") n (bytes " at ") p
+
+-- what a program prints for the text s: what it prints for its trees, or the line of its refusal
+pub data Printout (Prints : List Tree → List ℕ → Type 0) (s : List ℕ) : List ℕ → Type 0 where
+  prints : (ts : List Tree) (x : List ℕ) → tableRead s ≡ accepted ts → Prints ts x → Printout Prints s x
+  refuses : (n i p : ℕ) → tableRead s ≡ refusal n i p → Printout Prints s (refusalLine n p)
+
 -- first line: number of trees, number of pairs
 abbrev pub firstLine : ℕ → ℕ → List ℕ
 firstLine k m = twoFields (bytes "trees ") k (bytes " pairs ") m
@@ -50,14 +59,13 @@ pairLines (p ∷ ps) = pairLine (p .0) (p .1) ++ pairLines ps
 unfoldable pub sheet : List Tree → List Pair → List ℕ
 sheet ts ps = firstLine (length ts) (length ps) ++ treeLines ts ps 0 ts ++ pairLines ps
 
--- a refusal prints only its number and place
-abbrev pub refusalLine : ℕ → ℕ → List ℕ
-refusalLine n p = twoFields (bytes "refused ") n (bytes " at ") p
+-- the sheet of the trees ts with the pairs that are one move apart
+pub data SheetOf (ts : List Tree) : List ℕ → Type 0 where
+  shows-pairs : (ps : List Pair) → Listing (length ts) (At Apart ts) ps → SheetOf ts (sheet ts ps)
 
 -- what the pair lister prints for the text s
-pub data Sheet (s : List ℕ) : List ℕ → Type 0 where
-  prints : (ts : List Tree) (ps : List Pair) → tableRead s ≡ accepted ts → Listing (length ts) (At Apart ts) ps → Sheet s (sheet ts ps)
-  refuses : (n i p : ℕ) → tableRead s ≡ refusal n i p → Sheet s (refusalLine n p)
+abbrev pub Sheet : List ℕ → List ℕ → Type 0
+Sheet s x = Printout SheetOf s x
 
 -- lent to the sheet call: 220,902 bytes
 abbrev pub sheetSlices : List ℕ → List Slice

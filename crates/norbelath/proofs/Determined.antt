@@ -4,12 +4,12 @@ use mathlib.Core.Path.{_≡_, refl, sym, ap, _∙_}
 use mathlib.Core.Bool.{Bool, true, false}
 use mathlib.Core.List.{List}
 use Prim.Native.Nat.{ℕ, zero, suc}
-use Rattle.meaning.specs.Answer.{Answer, accepted, refusal, Outcome, TableSize, TableMemory, GraphSize, GraphMemory}
+use Rattle.meaning.specs.Answer.{Answer, accepted, refusal, Outcome, TableSize, TableMemory, GraphSize, GraphMemory, IslandsMemory}
 use Rattle.meaning.specs.Tree.{Tree}
-use Rattle.meaning.specs.Calls.{PairCall, GraphBy}
+use Rattle.meaning.specs.Calls.{PairCall, GraphBy, IslandsCall}
 use Rattle.meaning.specs.Sheet.{SheetCall}
-use Rattle.meaning.proofs.Determined.{pair-determined, graph-determined, sheet-call-determined}
-use Rattle.norbelath.specs.Coded.{coded, textValue, pairValue, tableValue, graphValue, textCoded, tableCoded, graphCoded}
+use Rattle.meaning.proofs.Determined.{pair-determined, graph-determined, islands-determined, sheet-call-determined}
+use Rattle.norbelath.specs.Coded.{coded, textValue, pairValue, tableValue, graphValue, textCoded, tableCoded, graphCoded, islandsCoded}
 use Rattle.norbelath.specs.declared.Reply.{Reply}
 
 abbrev pub reply : ℕ → ℕ → ℕ → Reply
@@ -88,4 +88,15 @@ module _ {r r′ x x′ y y′ : ℕ} where
         sym (graph-back r x y) ∙ ap (λ (z : Outcome GraphSize GraphMemory). graphNumbers (z .answer)) h ∙ graph-back r′ x′ y′,
         ap (λ (z : Outcome GraphSize GraphMemory). z .memory .pairs) h,
         ap (λ (z : Outcome GraphSize GraphMemory). z .memory .counts) h,
+      )
+
+  pub islands-code-determined : {s : List ℕ} {memory : IslandsMemory} {pairs pairs′ counts counts′ islands islands′ : List ℕ}
+      → IslandsCall s memory (islandsCoded r x y pairs counts islands) → IslandsCall s memory (islandsCoded r′ x′ y′ pairs′ counts′ islands′)
+      → (reply r x y ≡ reply r′ x′ y′) × (pairs ≡ pairs′) × (counts ≡ counts′) × (islands ≡ islands′)
+  islands-code-determined e f =
+      let h = islands-determined e f in (
+        sym (graph-back r x y) ∙ ap (λ (z : Outcome GraphSize IslandsMemory). graphNumbers (z .answer)) h ∙ graph-back r′ x′ y′,
+        ap (λ (z : Outcome GraphSize IslandsMemory). z .memory .graph .pairs) h,
+        ap (λ (z : Outcome GraphSize IslandsMemory). z .memory .graph .counts) h,
+        ap (λ (z : Outcome GraphSize IslandsMemory). z .memory .islands) h,
       )

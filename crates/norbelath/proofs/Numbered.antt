@@ -8,10 +8,10 @@ use lib.Dec.{T, leb, leb→le}
 use Rattle.meaning.specs.Lists.{every}
 use Rattle.meaning.specs.Tree.{Tree, form}
 use Rattle.meaning.specs.Move.{cutAt, forest}
-use Rattle.meaning.specs.Answer.{Answer, Outcome, TableMemory, GraphSize, GraphMemory, textOf, conclude}
-use Rattle.meaning.specs.Calls.{formCall, cutCall, PairCall, is-apart, not-apart, tableOf, tableCall, GraphBy, lists}
+use Rattle.meaning.specs.Answer.{Answer, Outcome, TableMemory, GraphSize, GraphMemory, IslandsMemory, textOf, conclude}
+use Rattle.meaning.specs.Calls.{formCall, cutCall, PairCall, is-apart, not-apart, tableOf, tableCall, GraphBy, lists, IslandsCall, numbers}
 use Rattle.meaning.specs.Sheet.{SheetCall, gives}
-use Rattle.meaning.proofs.Calls.{Tells, accepts, denies, tells-refusal, form-tells, cut-tells, pair-tells, table-call-tells, graph-tells, sheet-call-tells}
+use Rattle.meaning.proofs.Calls.{Tells, accepts, denies, tells-refusal, form-tells, cut-tells, pair-tells, table-call-tells, graph-tells, islands-tells, sheet-call-tells}
 use Rattle.meaning.proofs.Lists.{every-mem}
 use Rattle.norbelath.specs.Coded.{Numbered}
 
@@ -42,6 +42,10 @@ pair-numbered {s} {s′} (PairCall.refuses n i p e) = from-one tt (tells-refusal
 pub graph-numbered : {R : Tree → Tree → Type 0} {s : List ℕ} {memory : GraphMemory} {o : Outcome GraphSize GraphMemory} → GraphBy R s memory o → Numbered (o .answer)
 graph-numbered (lists ts ps e L) = tt
 graph-numbered {s} {memory} (GraphBy.refuses n i p e) = from-one tt (tells-refusal (graph-tells s memory) e .number)
+
+pub islands-numbered : {s : List ℕ} {memory : IslandsMemory} {o : Outcome GraphSize IslandsMemory} → IslandsCall s memory o → Numbered (o .answer)
+islands-numbered (numbers ts ps ms e L I) = tt
+islands-numbered {s} {memory} (IslandsCall.refuses n i p e) = from-one tt (tells-refusal (islands-tells s memory) e .number)
 
 pub sheet-numbered : {s out : List ℕ} {o : Outcome ℕ (List ℕ)} → SheetCall s out o → Numbered (o .answer)
 sheet-numbered {out} (gives x h) = concluded out (λ y. textOf y out) (sheet-call-tells x out) (λ n i p l. from-one tt (l .number)) (λ y. tt)

@@ -5,7 +5,7 @@ use Prim.Native.Nat.{ℕ, zero, suc, _≤_}
 use native.Mathlib.Omega.{arith}
 use Rattle.meaning.specs.Answer.{Answer, refusal, Outcome}
 use Rattle.reading.specs.declared.Refusal.{Refusal}
-use Rattle.calls.specs.Paper.{refusalOf}
+use Rattle.reading.specs.Paper.{refusalOf}
 use Rattle.norbelath.specs.Coded.{coded, Numbered}
 use Rattle.norbelath.specs.declared.Reply.{Reply}
 

@@ -3,7 +3,7 @@
 use mathlib.Core.Bool.{Bool, true, false}
 use mathlib.Core.List.{List}
 use Prim.Native.Nat.{ℕ, zero, suc, _≤_}
-use Rattle.meaning.specs.Answer.{Answer, accepted, refusal, Outcome, TableSize, TableMemory, GraphSize, GraphMemory}
+use Rattle.meaning.specs.Answer.{Answer, accepted, refusal, Outcome, TableSize, TableMemory, GraphSize, GraphMemory, IslandsMemory}
 
 -- result 0: accepted, and the numbers say what; else the refusal's number, and the numbers are which text and the place
 abbrev pub coded : {A : Type 0} → (ℕ → ℕ → Answer A) → ℕ → ℕ → ℕ → Answer A
@@ -28,7 +28,7 @@ pairValue x (suc y) = refusal 0 x (suc y)
 abbrev pub tableValue : ℕ → ℕ → Answer TableSize
 tableValue x y = accepted (record { bytes = x; trees = y })
 
--- the graph call: the trees, and the pairs
+-- the graph call, the interchange call and the islands call: the trees, and the pairs
 abbrev pub graphValue : ℕ → ℕ → Answer GraphSize
 graphValue x y = accepted (record { trees = x; pairs = y })
 
@@ -41,6 +41,9 @@ tableCoded r x y texts ends = record { answer = coded tableValue r x y; memory =
 
 abbrev pub graphCoded : ℕ → ℕ → ℕ → List ℕ → List ℕ → Outcome GraphSize GraphMemory
 graphCoded r x y pairs counts = record { answer = coded graphValue r x y; memory = record { pairs = pairs; counts = counts } }
+
+abbrev pub islandsCoded : ℕ → ℕ → ℕ → List ℕ → List ℕ → List ℕ → Outcome GraphSize IslandsMemory
+islandsCoded r x y pairs counts islands = record { answer = coded graphValue r x y; memory = record { graph = record { pairs = pairs; counts = counts }; islands = islands } }
 
 -- what is asked of an answer that is to be coded: a refusal's number is not 0
 abbrev pub Numbered : {A : Type 0} → Answer A → Type 0

@@ -1,4 +1,4 @@
-// The seven calls for programs in C and Rust. None asks anything of its caller. Each answers by a result and two lent
+// The eight calls for programs in C and Rust. None asks anything of its caller. Each answers by a result and two lent
 // numbers: `coded` in specs/ says which answer they are, and include/norbelath.h says it to a caller.
 use calls::GraphAnswer;
 use calls::PairAnswer;
@@ -6,10 +6,10 @@ use calls::TableAnswer;
 use calls::TextAnswer;
 use reading::Refusal;
 ghost use mathlib.Core.Path.{_≡_};
-ghost use Rattle.meaning.specs.Calls.{formCall, cutCall, PairCall, tableCall, GraphCall, InterchangeCall};
+ghost use Rattle.meaning.specs.Calls.{formCall, cutCall, PairCall, tableCall, GraphCall, InterchangeCall, IslandsCall};
 ghost use Rattle.meaning.specs.Sheet.{SheetCall};
 ghost use Rattle.calls.specs.Paper.{textAnswer, pairAnswer, tableAnswer, graphAnswer};
-ghost use Rattle.norbelath.specs.Coded.{coded, textValue, pairValue, tableValue, graphValue, textCoded, tableCoded, graphCoded, Numbered};
+ghost use Rattle.norbelath.specs.Coded.{coded, textValue, pairValue, tableValue, graphValue, textCoded, tableCoded, graphCoded, islandsCoded, Numbered};
 
 // A result and the two numbers beside it.
 struct Reply {
@@ -184,6 +184,28 @@ pub extern "C" fn norbelath_interchanges(
 {
     hand_back(
         graph_reply(calls::interchange_call(text, pairs, counts)),
+        first,
+        second,
+    )
+}
+
+// Islands call: the numbers are the trees and the pairs.
+#[no_mangle]
+pub extern "C" fn norbelath_islands(
+    text: &[u8],
+    pairs: &mut [u16],
+    counts: &mut [u16],
+    islands: &mut [u16],
+    first: &mut u64,
+    second: &mut u64,
+) -> u8
+    ensures { λ r. ⌜
+        IslandsCall (now (text .entry))
+        (record { graph = record { pairs = now (pairs .entry); counts = now (counts .entry) }; islands = now (islands .entry) })
+        (islandsCoded r (now (first .exit)) (now (second .exit)) (now (pairs .exit)) (now (counts .exit)) (now (islands .exit))) ⌝ }
+{
+    hand_back(
+        graph_reply(calls::islands_call(text, pairs, counts, islands)),
         first,
         second,
     )

@@ -1,3 +1,4 @@
 pub mod Draft
+pub mod Lent
 pub mod Paper
 pub mod Whole

@@ -1,8 +1,11 @@
-// Reads tree text: blanks, labels, nodes and forks; the module `tables` reads many trees.
+// Reads tree text: blanks, labels, nodes and forks; the module `tables` reads many trees, and `limited` a text for a call.
 use held::Tree;
 
+pub mod limited;
 pub mod tables;
 
+pub use limited::read_lent;
+pub use limited::read_lent_table;
 pub use tables::TableRead;
 pub use tables::read_table;
 pub use tables::unlike;

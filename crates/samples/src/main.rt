@@ -7,6 +7,7 @@ use held::Table;
 use held::Tree;
 use libc::STDOUT_FILENO;
 use reading::Refusal;
+use sheet::IslandSheet;
 use sheet::Sheet;
 
 fn print(text: &[u8]) {
@@ -114,6 +115,7 @@ fn print_pairs(pairs: &[u16], number: usize) {
     }
 }
 
+// The first numbers of a slice, as far as it has them.
 fn print_counts(counts: &[u16], number: usize) {
     let mut i = 0;
     while i < counts.len() {
@@ -139,7 +141,35 @@ fn print_graph(answer: GraphAnswer, pairs: &[u16], counts: &[u16]) {
     }
 }
 
-// The graph call, and the interchange call in the same slices.
+// The islands call's pairs are the graph call's, so the islands' numbers are printed alone.
+fn islands(text: &[u8]) {
+    let mut pairs = [0u16; Table::PAIR_NUMBERS];
+    let mut counts = [0u16; Table::MAX_TREES];
+    let mut numbers = [0u16; Table::MAX_TREES];
+    print(b"islands : ");
+    let answer = calls::islands_call(text, &mut pairs, &mut counts, &mut numbers);
+    match answer {
+        GraphAnswer::Listed(trees, number) => {
+            print_number(trees);
+            print(b" trees, ");
+            print_number(number);
+            print(b" pairs, islands");
+            print_counts(&numbers, trees);
+            print(b"\n");
+        }
+        GraphAnswer::Refused(x) => print_refusal(x),
+    }
+}
+
+// What the islands program prints; it ends each of its lines itself.
+fn print_island_sheet(text: &[u8]) {
+    let mut out = [0u8; IslandSheet::MAX_BYTES];
+    print(b"sheet of islands :\n");
+    let n = sheet::print_islands(text, &mut out);
+    print(&out[..n]);
+}
+
+// The graph call, and the interchange call in the same slices; then the islands.
 fn graph(text: &[u8]) {
     let mut pairs = [0u16; Table::PAIR_NUMBERS];
     let mut counts = [0u16; Table::MAX_TREES];
@@ -151,6 +181,8 @@ fn graph(text: &[u8]) {
     print(b"interchanges : ");
     let answer = calls::interchange_call(text, &mut pairs, &mut counts);
     print_graph(answer, &pairs, &counts);
+    islands(text);
+    print_island_sheet(text);
 }
 
 // A sheet ends each of its lines itself.
@@ -285,6 +317,9 @@ fn graphs() {
     graph(b"((((4,5),1),2),3);((((1,2),3),4),5);");
     graph(b"(((1,2),3),4);(((2,3),1),4);(((1,3),2),4);((1,2),(3,4));(((1,2),4),3);");
     graph(b"(((1,2),3),4);(((1,4),2),3);((2,3),(1,4));");
+    graph(
+        b"((((5,6),1),2),(3,4));((((1,2),3),4),(5,6));((((1,2),4),3),(5,6));((((5,6),2),1),(3,4));",
+    );
     graph(b"(1,2);(1,2");
 }
 

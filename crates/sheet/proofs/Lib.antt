@@ -1,7 +1,9 @@
 pub mod Determined
+pub mod IslandLines
 pub mod Listed
 pub mod Prints
 pub mod Rows
+pub mod Shown
 pub mod Sizes
 pub mod Turns
 pub mod Unlinked

@@ -1,20 +1,23 @@
--- The longest sheet: numbers below 1000 and 100,000 have at most three and five digits, and a canonical text at most 309 bytes. So what is printed fits into what is lent.
+-- The longest sheets: numbers below 1000 and 100,000 have at most three and five digits, and a canonical text at most 309 bytes. So what is printed fits into what is lent.
 -- Assumes nothing.
 use mathlib.Core.Path.{_≡_, ap}
-use mathlib.Core.List.{List}
+use mathlib.Core.Bool.{Bool, true, false, cond}
+use mathlib.Core.List.{List, []}
 use Prim.Native.Nat.{ℕ, zero, suc, _*_, _/_, _≤_, _<_}
 use native.Mathlib.Omega.{arith}
 use native.Mathlib.Decide.{decLe}
-use lib.Dec.{leb, leb→le}
+use lib.Dec.{eqb, leb, leb→le}
 use lib.ListN.{length, length-append}
-use Rattle.meaning.specs.Limits.{textBytes, maxTrees, firstLineBytes, treeLineBytes, pairLineBytes, sheetBytes}
+use Rattle.meaning.specs.Limits.{textBytes, maxTrees, firstLineBytes, treeLineBytes, pairLineBytes, sheetBytes, islandLineBytes, islandSheetBytes}
 use Rattle.meaning.specs.Bytes.{bytes}
 use Rattle.meaning.specs.Tree.{Tree as Topology, digits, AllGood}
 use Rattle.meaning.specs.Move.{Apart}
 use Rattle.meaning.specs.Listing.{Pair, Listing, At, neighbours, unlinked}
 use Rattle.meaning.specs.Answer.{refusal, Outcome}
 use Rattle.meaning.specs.Calls.{tableRead}
-use Rattle.meaning.specs.Sheet.{firstLine, treeLineOf, treeLines, pairLine, pairLines, sheet, refusalLine, Sheet, prints, SheetCall}
+use Rattle.meaning.specs.Sheet.{refusalLine, Printout, prints, firstLine, treeLineOf, treeLines, pairLine, pairLines, sheet, shows-pairs, Sheet, SheetCall}
+use Rattle.meaning.specs.IslandSheet.{islandLine, lineAt, islandLines, shows-islands, IslandSheet}
+use Rattle.meaning.specs.Islands.{size}
 use Rattle.meaning.proofs.Lists.{every-mem}
 use Rattle.meaning.proofs.Lent.{eight}
 use Rattle.meaning.proofs.Calls.{tells-accepted, tells-refusal, table-tells}
@@ -24,10 +27,11 @@ use Rattle.meaning.proofs.Unlinked.{unlinked-neighbours-copies}
 use Rattle.meaning.proofs.Counts.{listing-few}
 use Rattle.meaning.proofs.Digits.{digits-one}
 use Rattle.meaning.proofs.Length.{form-length}
+use Rattle.lent.proofs.Tallies.{count-le}
 use Rattle.writing.proofs.Laws.{length-digits}
 use Rattle.writing.proofs.Lines.{two-length, tree-length}
 use Rattle.sheet.proofs.Rows.{rows-length}
-use Rattle.sheet.proofs.Turns.{trees-rows, good-one, pairRow, pairs-rows}
+use Rattle.sheet.proofs.Turns.{trees-rows, good-one, pairRow, pairs-rows, lines-rows}
 
 -- the least number of more than d + 1 digits
 abbrev tens : ℕ → ℕ
@@ -91,12 +95,36 @@ place-short s {p} e = by (decLe (length s) textBytes)
     by (yes h) = omega (arith, tells-refusal (table-tells s) e .place)
     by (no h) = omega (arith, same-refusal (eight 0 s _ (omega arith)) e .2)
 
+-- and its number is at most 8
+refusal-fits : (s : List ℕ) {n i p : ℕ} → tableRead s ≡ refusal n i p → length (refusalLine n p) ≤ 21
+refusal-fits s {n} {i} {p} e =
+    let small = leb→le n 8 (every-mem (λ (m : ℕ). leb m 8) tt (tells-refusal (table-tells s) e .number)) in
+    refusal-short n p (omega arith) (omega (arith, place-short s e))
+
 -- what is printed for any text
 pub sheet-fits : {s x : List ℕ} → Sheet s x → length x ≤ sheetBytes
-sheet-fits {s} (prints ts ps e L) = let r = tells-accepted (table-tells s) e in sheet-short ts ps (r .0) L (r .1 .few)
-sheet-fits {s} (Sheet.refuses n i p e) =
-    let small = leb→le n 8 (every-mem (λ (m : ℕ). leb m 8) tt (tells-refusal (table-tells s) e .number)) in
-    omega (arith, refusal-short n p (omega arith) (omega (arith, place-short s e)))
+sheet-fits {s} (prints ts x e (shows-pairs ps L)) = let r = tells-accepted (table-tells s) e in sheet-short ts ps (r .0) L (r .1 .few)
+sheet-fits {s} (Printout.refuses n i p e) = omega (arith, refusal-fits s e)
+
+-- ---- islands
+island-short : (m n : ℕ) → m < 1000 → n < 1000 → length (islandLine m n) ≤ islandLineBytes
+island-short m n h l = omega (arith, two-length (bytes "island ") m (bytes " ") n, three m h, three n l)
+
+-- one line, or none
+line-short : (ms : List ℕ) (i x : ℕ) → i < 1000 → length ms < 1000 → length (lineAt ms i x) ≤ islandLineBytes
+line-short ms i x h l = by (eqb x i)
+  where
+    by : (b : Bool) → length (cond b (islandLine i (size ms i)) []) ≤ islandLineBytes
+    by true = island-short i (size ms i) h (omega (arith, count-le (λ y. eqb y i) ms))
+    by false = omega arith
+
+pub islands-short : (ms : List ℕ) → length ms ≤ maxTrees → length (islandLines ms) ≤ islandSheetBytes
+islands-short ms few =
+    rw lines-rows (omega (arith, rows-length (lineAt ms) islandLineBytes 0 ms (λ i x m h. line-short ms i x (omega arith) (omega arith)), few))
+
+pub island-sheet-fits : {s x : List ℕ} → IslandSheet s x → length x ≤ islandSheetBytes
+island-sheet-fits {s} (prints ts x e (shows-islands ps ms L I)) = islands-short ms (omega (arith, I .many, tells-accepted (table-tells s) e .1 .few))
+island-sheet-fits {s} (Printout.refuses n i p e) = omega (arith, refusal-fits s e)
 
 -- so the sheet call keeps the length of what it is lent
 pub sheet-kept : {s out : List ℕ} {o : Outcome ℕ (List ℕ)} → SheetCall s out o → length (o .memory) ≡ length out

@@ -1,21 +1,23 @@
--- What the loops over a table's trees and over the pairs read in a turn.
+-- What the loops over a table's trees and over the pairs read in a turn; and lines as rows.
 -- Assumes nothing.
-use mathlib.Core.Path.{_≡_, refl, ap, ap₂, _∙_}
+use mathlib.Core.Path.{_≡_, refl, ap, ap₂}
 use mathlib.Core.List.{List, [], _∷_, _++_, List·Memᴰ, List·Memᴰ·head, List·Memᴰ·tail}
-use Prim.Native.Nat.{ℕ, zero, suc, _+_, _*_, _≤_, _<_}
+use Prim.Native.Nat.{ℕ, suc, _+_, _*_, _≤_, _<_}
 use native.Mathlib.Omega.{arith}
-use lib.ListN.{length, take, getD, replicate, length-append, List·getD-append}
+use lib.ListN.{length, take, getD, replicate}
 use Rattle.meaning.specs.Limits.{maxTrees}
 use Rattle.meaning.specs.Tree.{Tree as Topology, leaf, Good, AllGood}
-use Rattle.meaning.specs.Listing.{Pair, flat, treeOf, unlinked}
+use Rattle.meaning.specs.Listing.{Pair, treeOf, unlinked}
 use Rattle.meaning.specs.Sheet.{treeLine, treeLineOf, treeLines, pairLine, pairLines}
-use Rattle.meaning.proofs.Counts.{flat-length}
+use Rattle.meaning.specs.IslandSheet.{lineAt, linesFrom}
 use Rattle.meaning.proofs.Unlinked.{unlinked-neighbours-copies}
 use Rattle.lent.specs.Runs.{Wrote}
 use Rattle.held.specs.Kept.{Keeps, KeptRoom, heldAt}
 use Rattle.held.specs.declared.Table.{Table}
 use Rattle.held.proofs.Kept.{keeps-good}
-use Rattle.sheet.specs.Lines.{TreesListed, unlinkedNumbers, TreeLinesFit, PairsListed, PairLinesFit}
+use Rattle.graph.specs.Listed.{PairsListed}
+use Rattle.graph.proofs.Listed.{pairAt, pair-first, pair-second}
+use Rattle.sheet.specs.Lines.{TreesListed, unlinkedNumbers, TreeLinesFit, PairLinesFit}
 use Rattle.sheet.proofs.Listed.{inside, counted}
 use Rattle.sheet.proofs.Unlinked.{written-at}
 use Rattle.sheet.proofs.Rows.{rows, turn-room, turn-wrote, turns-wrote}
@@ -41,8 +43,8 @@ others-few {ts} {ps} noted L i h =
     omega (arith, written-at (unlinked ts ps) (L .keeps .few) (noted ts ps L) i h, unlinked-neighbours-copies ts (keeps-good (L .keeps)) (L .listing) i h, L .keeps .few)
 
 -- the line of the tree at i, whose neighbours and unlinked number stand at i of the numbers
-abbrev pub lineAt : List ℕ → List ℕ → ℕ → Topology → List ℕ
-lineAt numbers others i t = treeLine i (getD numbers i 0) (getD others i 0) t
+abbrev pub treeLineAt : List ℕ → List ℕ → ℕ → Topology → List ℕ
+treeLineAt numbers others i t = treeLine i (getD numbers i 0) (getD others i 0) t
 
 -- the lines of the first i trees are written
 abbrev pub TreesSoFar : Table → List ℕ → List ℕ → List ℕ → ℕ → ℕ → ℕ → Type 0
@@ -50,10 +52,10 @@ TreesSoFar table numbers out o₁ at next i = (ts : List Topology) (ps : List Pa
 
 module _ {table : Table} {numbers out o₁ : List ℕ} {at next i : ℕ} (w : TreesSoFar table numbers out o₁ at next i) where
   module _ {others : List ℕ} (noted : OthersNoted table numbers others) (h : i < table .len) where
-    line-is : {ts : List Topology} {ps : List Pair} → TreesListed table numbers ts ps → lineAt numbers others i (treeOf ts i) ≡ treeLineOf ts ps i (treeOf ts i)
+    line-is : {ts : List Topology} {ps : List Pair} → TreesListed table numbers ts ps → treeLineAt numbers others i (treeOf ts i) ≡ treeLineOf ts ps i (treeOf ts i)
     line-is {ts} {ps} L = ap₂ (λ (n u : ℕ). treeLine i n u (treeOf ts i)) (counted L i h) (written-at (unlinked ts ps) (L .keeps .few) (noted ts ps L) i (inside L i h))
 
-    pub tree-fits : TreeLinesFit table numbers at (length out) → KeptRoom (λ t. next + length (lineAt numbers others i t)) (heldAt table i) (length o₁)
+    pub tree-fits : TreeLinesFit table numbers at (length out) → KeptRoom (λ t. next + length (treeLineAt numbers others i t)) (heldAt table i) (length o₁)
     tree-fits f =
         let L = f .listed in
         let room : at + length (rows (treeLineOf (f .trees) (f .linked)) 0 (f .trees)) ≤ length out = rw (← trees-rows (f .trees) (f .linked) 0 (f .trees)) (f .room) in
@@ -63,7 +65,7 @@ module _ {table : Table} {numbers out o₁ : List ℕ} {at next i : ℕ} (w : Tr
           room = rw (line-is L) (turn-room (treeLineOf (f .trees) (f .linked)) (leaf 0) (f .trees) i (inside L i h) (w (f .trees) (f .linked) L) room);
         }
 
-    pub trees-more : {o₂ : List ℕ} {r : ℕ} → ((t : Topology) → Keeps (heldAt table i) t → Wrote (lineAt numbers others i t) o₁ o₂ next r)
+    pub trees-more : {o₂ : List ℕ} {r : ℕ} → ((t : Topology) → Keeps (heldAt table i) t → Wrote (treeLineAt numbers others i t) o₁ o₂ next r)
         → TreesSoFar table numbers out o₂ at r (i + 1)
     trees-more one ts ps L =
         turn-wrote (treeLineOf ts ps) (leaf 0) ts i (inside L i h) (w ts ps L) (rw (line-is L) at (one (treeOf ts i) (L .keeps .each i (inside L i h))))
@@ -83,31 +85,9 @@ unfolding pairLines
 pairs-rows i [] = refl
 pairs-rows i (p ∷ ps) = ap (λ (l : List ℕ). pairLine (p .0) (p .1) ++ l) (pairs-rows (suc i) ps)
 
-abbrev pairAt : List Pair → ℕ → Pair
-pairAt ps i = getD ps i (0, 0)
-
-flat-at : (ps : List Pair) (i : ℕ) → i < length ps → (getD (flat ps) (2 * i) 0 ≡ pairAt ps i .0) × (getD (flat ps) (2 * i + 1) 0 ≡ pairAt ps i .1)
-unfolding flat
-flat-at [] i h = absurd (omega arith)
-flat-at (p ∷ ps) zero h = (refl, refl)
-flat-at (p ∷ ps) (suc i) h =
-    let even : 2 * suc i ≡ suc (suc (2 * i)) = omega arith in
-    let odd : 2 * suc i + 1 ≡ suc (suc (2 * i + 1)) = omega arith in
-    let r = flat-at ps i (omega arith) in
-    (rw even (r .0), rw odd (r .1))
-
-module _ {numbers : List ℕ} {m : ℕ} {ps : List Pair} (L : PairsListed numbers m ps) where
-  pub pairs-long : 2 * m ≤ length numbers
-  pairs-long = omega (arith, ap length (L .listed .1), length-append (flat ps) (L .listed .0), flat-length ps, L .many)
-
-  module _ (i : ℕ) (h : i < m) where
-    number-at : (j : ℕ) → j < 2 * m → getD numbers j 0 ≡ getD (flat ps) j 0
-    number-at j l = ap (λ (l : List ℕ). getD l j 0) (L .listed .1) ∙ List·getD-append (flat ps) (L .listed .0) 0 j (omega (arith, flat-length ps, L .many))
-
-    pair-is : pairLine (getD numbers (2 * i) 0) (getD numbers (2 * i + 1) 0) ≡ pairRow i (pairAt ps i)
-    pair-is =
-        let r = flat-at ps i (omega (arith, L .many)) in
-        ap₂ pairLine (number-at (2 * i) (omega arith) ∙ r .0) (number-at (2 * i + 1) (omega arith) ∙ r .1)
+-- the pair of a turn
+pair-is : {numbers : List ℕ} {m : ℕ} {ps : List Pair} → PairsListed numbers m ps → (i : ℕ) → i < m → pairLine (getD numbers (2 * i) 0) (getD numbers (2 * i + 1) 0) ≡ pairRow i (pairAt ps i)
+pair-is L i h = ap₂ pairLine (pair-first L i h) (pair-second L i h)
 
 -- the lines of the first i pairs are written
 abbrev pub PairsSoFar : List ℕ → ℕ → List ℕ → List ℕ → ℕ → ℕ → ℕ → Type 0
@@ -127,3 +107,10 @@ module _ {numbers out o₁ : List ℕ} {m at next i : ℕ} (w : PairsSoFar numbe
   pairs-done h l ps L =
       let all : i ≡ length ps = omega (arith, L .many) in
       rw (pairs-rows 0 ps) (turns-wrote pairRow ps all (w ps L))
+
+-- ---- islands
+-- their lines are rows
+pub lines-rows : (ms : List ℕ) (i : ℕ) (xs : List ℕ) → linesFrom ms i xs ≡ rows (lineAt ms) i xs
+unfolding linesFrom
+lines-rows ms i [] = refl
+lines-rows ms i (x ∷ xs) = ap (λ (l : List ℕ). lineAt ms i x ++ l) (lines-rows ms (suc i) xs)

@@ -1,8 +1,8 @@
 -- Numbers of positions in an array of zeros, and what a turn of the loop over the unlinked numbers reads in them.
 -- Assumes nothing.
-use mathlib.Core.Path.{_≡_, refl, ap, _∙_}
+use mathlib.Core.Path.{_≡_, ap, _∙_}
 use mathlib.Core.List.{List, map}
-use Prim.Native.Nat.{ℕ, zero, suc, _+_, _≤_, _<_}
+use Prim.Native.Nat.{ℕ, _+_, _≤_, _<_}
 use native.Mathlib.Omega.{arith}
 use lib.Dec.{eqb}
 use lib.ListN.{length, take, drop, getD, replicate, length-replicate}
@@ -16,6 +16,7 @@ use Rattle.meaning.proofs.Unlinked.{unlinked-neighbours-copies}
 use Rattle.lent.specs.Runs.{Wrote}
 use Rattle.lent.specs.Tallies.{TallyRoom, Tallied}
 use Rattle.lent.proofs.Runs.{sets-start, sets-at, wrote-length}
+use Rattle.lent.proofs.Tallies.{zeros-room, zeros-tallied}
 use Rattle.held.specs.Copies.{firstOf, firstsOf}
 use Rattle.held.proofs.Kept.{keeps-good}
 use Rattle.held.proofs.Copies.{first-le, copies-firsts}
@@ -29,11 +30,6 @@ zeros = replicate maxTrees 0
 
 zeros-long : length zeros ≡ maxTrees
 zeros-long = length-replicate {A = ℕ} maxTrees 0
-
-zeros-at : (n x : ℕ) → _≡_ {A = ℕ} (getD (replicate n 0) x 0) 0
-zeros-at zero x = refl
-zeros-at (suc n) zero = refl
-zeros-at (suc n) (suc x) = zeros-at n x
 
 -- what f makes of the first k positions was written into it
 module _ (f : ℕ → ℕ) {k : ℕ} {xs : List ℕ} (few : k ≤ maxTrees) (w : Wrote (map f (positions k)) zeros xs 0 k) where
@@ -62,11 +58,9 @@ module _ {table : Table} {numbers firsts : List ℕ} {ts : List Topology} {ps : 
   first-few i h = omega (arith, first-at i h, first-le ts i h, L .keeps .few)
 
   pub tally-room : TallyRoom zeros firsts (table .len)
-  tally-room = record {
-    lent = omega (arith, written-long (firstOf ts) (L .keeps .few) w, L .keeps .count, L .keeps .few);
-    places = λ i h. omega (arith, first-few i (omega (arith, L .keeps .count)), zeros-long);
-    grow = λ x. omega (arith, zeros-at maxTrees x, L .keeps .count, L .keeps .few);
-  }
+  tally-room =
+      zeros-room maxTrees (omega (arith, written-long (firstOf ts) (L .keeps .few) w, L .keeps .count, L .keeps .few)) (omega (arith, L .keeps .count, L .keeps .few))
+      (λ i h. first-few i (omega (arith, L .keeps .count)))
 
   module _ {tallies : List ℕ} (t : Tallied (take (table .len) firsts) zeros tallies) (i : ℕ) (h : i < length ts) where
     taken : take (table .len) firsts ≡ firstsOf ts
@@ -74,8 +68,8 @@ module _ {table : Table} {numbers firsts : List ℕ} {ts : List Topology} {ps : 
 
     pub copies-at : getD tallies (getD firsts i 0) 0 ≡ copies ts i
     copies-at =
-        ap (λ (x : ℕ). getD tallies x 0) (first-at i h) ∙ t .each (firstOf ts i)
-        ∙ omega (arith, zeros-at maxTrees (firstOf ts i), ap (count (λ y. eqb y (firstOf ts i))) taken, copies-firsts ts i h)
+        ap (λ (x : ℕ). getD tallies x 0) (first-at i h) ∙ zeros-tallied maxTrees t (firstOf ts i)
+        ∙ omega (arith, ap (count (λ y. eqb y (firstOf ts i))) taken, copies-firsts ts i h)
 
     -- what is left of all trees
     pub rest-at : unlinked ts ps i + getD numbers i 0 + getD tallies (getD firsts i 0) 0 ≡ table .len

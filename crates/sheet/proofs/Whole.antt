@@ -12,7 +12,8 @@ use Rattle.lent.specs.Runs.{Wrote}
 use Rattle.lent.proofs.Runs.{wrote-more, wrote-length}
 use Rattle.held.specs.declared.Table.{Table}
 use Rattle.held.proofs.Kept.{keeps-good}
-use Rattle.sheet.specs.Lines.{TreesListed, TreeLinesFit, PairsListed, PairLinesFit, SheetFits}
+use Rattle.graph.specs.Listed.{PairsListed}
+use Rattle.sheet.specs.Lines.{TreesListed, TreeLinesFit, PairLinesFit, SheetFits}
 use Rattle.sheet.proofs.Sizes.{sheet-short}
 
 sheet-length : (ts : List Topology) (ps : List Pair) → length (sheet ts ps) ≡ length (firstLine (length ts) (length ps)) + length (treeLines ts ps 0 ts) + length (pairLines ps)

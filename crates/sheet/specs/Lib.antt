@@ -1,2 +1,3 @@
+pub mod Islands
 pub mod Lines
 pub mod Printed

@@ -1,6 +1,5 @@
 -- What the writers of the sheet ask of the trees and pairs that are held, and of the room for their lines.
 -- Assumes nothing.
-use mathlib.Core.Path.{_≡_}
 use mathlib.Core.List.{List, map}
 use Prim.Native.Nat.{ℕ, _+_, _≤_}
 use lib.ListN.{length}
@@ -8,11 +7,12 @@ use Rattle.meaning.specs.Limits.{sheetBytes}
 use Rattle.meaning.specs.Lists.{positions}
 use Rattle.meaning.specs.Tree.{Tree as Topology}
 use Rattle.meaning.specs.Move.{Apart}
-use Rattle.meaning.specs.Listing.{Pair, Listing, At, counts, unlinked, flat}
+use Rattle.meaning.specs.Listing.{Pair, Listing, At, counts, unlinked}
 use Rattle.meaning.specs.Sheet.{treeLines, pairLines}
 use Rattle.lent.specs.Runs.{Stands}
 use Rattle.held.specs.Kept.{KeepsAll}
 use Rattle.held.specs.declared.Table.{Table}
+use Rattle.graph.specs.Listed.{PairsListed}
 
 -- the table keeps the trees ts, and `numbers` begins with their neighbour counts among the listed pairs ps
 pub record TreesListed (table : Table) (numbers : List ℕ) (ts : List Topology) (ps : List Pair) : Type 0 where
@@ -38,12 +38,7 @@ pub record TreeLinesFit (table : Table) (numbers : List ℕ) (at len : ℕ) : Ty
   pub listed : TreesListed table numbers trees linked
   pub room : at + length (treeLines trees linked 0 trees) ≤ len
 
--- `numbers` begins with the m pairs ps
-pub record PairsListed (numbers : List ℕ) (m : ℕ) (ps : List Pair) : Type 0 where
-  pub many : m ≡ length ps
-  pub listed : Stands numbers 0 (flat ps)
-
--- there is room for their lines
+-- `numbers` begins with m pairs, and there is room for their lines
 pub record PairLinesFit (numbers : List ℕ) (m at len : ℕ) : Type 0 where
   pub linked : List Pair
   pub listed : PairsListed numbers m linked

@@ -1,6 +1,11 @@
-// The pair lister's sheet, written into lent memory: each function returns the place behind what it wrote.
+// The pair lister's sheet, and in the module `islands` that of islands, written into lent memory: each function returns the
+// place behind what it wrote.
+pub mod islands;
+
 use held::Table;
 use held::Tree;
+pub use islands::IslandSheet;
+pub use islands::print_islands;
 use pairs::Link;
 use reading::Refusal;
 use reading::Step;
@@ -10,11 +15,11 @@ ghost use lib.ListN.{length};
 ghost use Rattle.meaning.specs.Limits.{sheetBytes};
 ghost use Rattle.meaning.specs.Tree.{Tree as Topology};
 ghost use Rattle.meaning.specs.Listing.{Pair};
-ghost use Rattle.meaning.specs.Sheet.{treeLines, pairLines, sheet};
+ghost use Rattle.meaning.specs.Sheet.{refusalLine, treeLines, pairLines, sheet, SheetOf};
 ghost use Rattle.lent.specs.Runs.{Wrote};
-ghost use Rattle.held.specs.Kept.{KeepsAll};
-ghost use Rattle.sheet.specs.Lines.{TreesListed, UnlinkedRoom, unlinkedNumbers, TreeLinesFit, PairsListed, PairLinesFit, SheetFits};
-ghost use Rattle.sheet.specs.Printed.{TableFits, SheetWritten, Printed};
+ghost use Rattle.graph.specs.Listed.{PairsListed};
+ghost use Rattle.sheet.specs.Lines.{TreesListed, UnlinkedRoom, unlinkedNumbers, TreeLinesFit, PairLinesFit, SheetFits};
+ghost use Rattle.sheet.specs.Printed.{TableFits, ShownAll, Printed};
 
 // The home of the sheet's size.
 pub struct Sheet {}
@@ -102,8 +107,8 @@ fn write_sheet(out: &mut [u8], table: Table, pairs: &[u16], counts: &[u16], m: u
 
 // Lists the pairs of the table's trees in memory of its own, and writes their sheet.
 fn write_table_sheet(out: &mut [u8], table: Table) -> usize
-    requires { ⌜ TableFits table (length (now out)) ⌝ }
-    ensures { λ r. ⌜ ((ts : List Topology) → KeepsAll table ts → SheetWritten ts (now (out .entry)) (now (out .exit)) r) ⌝ }
+    requires { ⌜ TableFits table sheetBytes (length (now out)) ⌝ }
+    ensures { λ r. ⌜ ShownAll SheetOf table (now (out .entry)) (now (out .exit)) r ⌝ }
 {
     let mut pairs = [0u16; Table::PAIR_NUMBERS];
     let mut counts = [0u16; Table::MAX_TREES];
@@ -111,25 +116,30 @@ fn write_table_sheet(out: &mut [u8], table: Table) -> usize
     write_sheet(out, table, &pairs, &counts, m)
 }
 
+// Writes the line of a refusal, which is all that is printed for a text that is refused.
+fn print_refusal(out: &mut [u8], x: Refusal) -> usize
+    requires { ⌜ length (refusalLine (x .number) (x .place)) ≤ length (now out) ⌝ }
+    ensures { λ r. ⌜ Wrote (refusalLine (x .number) (x .place)) (now (out .entry)) (now (out .exit)) 0 r ⌝ }
+{
+    writing::write_refusal(out, 0, lent::wide(x.number), x.place)
+}
+
 // Writes what the pair lister prints for the text s from the start of `out` on; returns the number of its bytes.
 pub fn print_sheet(s: &[u8], out: &mut [u8]) -> usize
     requires { ⌜ sheetBytes ≤ length (now out) ⌝ }
-    ensures { λ r. ⌜ Printed (now (s .entry)) (now (out .entry)) (now (out .exit)) r ⌝ }
+    ensures { λ r. ⌜ Printed SheetOf (now (s .entry)) (now (out .entry)) (now (out .exit)) r ⌝ }
 {
-    if Tree::TEXT_BYTES < s.len() {
-        return writing::write_refusal(out, 0, lent::wide(Refusal::LONG_TEXT), 0);
-    }
-    let read = reading::read_table(s);
+    let read = reading::read_lent_table(s, true);
     let step = read.step;
-    let Step::Refused(refusal) = step else {
-        return write_table_sheet(out, read.table);
-    };
-    writing::write_refusal(out, 0, lent::wide(refusal.number), refusal.place)
+    match step {
+        Step::Refused(x) => print_refusal(out, x),
+        Step::Next(_, _) => write_table_sheet(out, read.table),
+    }
 }
 
 // The same, in memory of the stated size.
 pub fn sheet_of(s: &[u8], out: &mut [u8; Sheet::MAX_BYTES]) -> usize
-    ensures { λ r. ⌜ Printed (now (s .entry)) (now (out .entry)) (now (out .exit)) r ⌝ }
+    ensures { λ r. ⌜ Printed SheetOf (now (s .entry)) (now (out .entry)) (now (out .exit)) r ⌝ }
 {
     print_sheet(s, out)
 }

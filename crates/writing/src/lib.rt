@@ -5,6 +5,7 @@ ghost use lib.ListN.{length};
 ghost use Rattle.meaning.specs.Tree.{Tree as Topology, digits, write, form};
 ghost use Rattle.meaning.specs.Move.{cutAt, forest};
 ghost use Rattle.meaning.specs.Sheet.{twoFields, firstLine, treeLine, pairLine, refusalLine};
+ghost use Rattle.meaning.specs.IslandSheet.{islandLine};
 ghost use Rattle.lent.specs.Runs.{Wrote};
 ghost use Rattle.held.specs.Held.{Holds, Room};
 ghost use Rattle.held.specs.Kept.{Keeps, KeptRoom};
@@ -117,6 +118,14 @@ pub fn write_pair_line(out: &mut [u8], at: usize, i: usize, j: usize) -> usize
     ensures { λ r. ⌜ Wrote (pairLine i j) (now (out .entry)) (now (out .exit)) at r ⌝ }
 {
     write_two_fields(out, at, b"pair ", i, b" ", j)
+}
+
+// Writes the line of an island, its number and then its size.
+pub fn write_island_line(out: &mut [u8], at: usize, number: usize, size: usize) -> usize
+    requires { ⌜ at + length (islandLine number size) ≤ length (now out) ⌝ }
+    ensures { λ r. ⌜ Wrote (islandLine number size) (now (out .entry)) (now (out .exit)) at r ⌝ }
+{
+    write_two_fields(out, at, b"island ", number, b" ", size)
 }
 
 // A refusal's line is the whole sheet, with no line before it or behind.

@@ -1,8 +1,8 @@
 //! Each call beside the independent implementation: its answer, and what it leaves in lent memory.
 
-use norbelath::{Graph, GraphSize, Refusal, Table, TableSize};
+use norbelath::{Graph, GraphSize, Islands, Refusal, Table, TableSize};
 use norbelath::{CUT_OUT, FORM_OUT, GRAPH_COUNTS, GRAPH_PAIRS};
-use norbelath::{SHEET_OUT, TABLE_ENDS, TABLE_TEXTS};
+use norbelath::{ISLANDS, SHEET_OUT, TABLE_ENDS, TABLE_TEXTS};
 
 use crate::generator::Random;
 
@@ -12,7 +12,7 @@ const SHORT: Refusal = Refusal {
     place: 0,
 };
 
-/// A call that lists pairs into lent slices.
+/// A call that lists pairs into two lent slices.
 type ListInto = fn(&[u8], &mut [u16], &mut [u16]) -> Result<GraphSize, Refusal>;
 
 fn refusal(x: plain::Refusal) -> Refusal {
@@ -60,6 +60,14 @@ fn enough(random: &mut Random, least: usize) -> usize {
 
 fn too_short(random: &mut Random, least: usize) -> usize {
     random.pick(&[0, 1, least / 2, least - 1])
+}
+
+fn length(random: &mut Random, short: bool, least: usize) -> usize {
+    if short {
+        too_short(random, least)
+    } else {
+        enough(random, least)
+    }
 }
 
 /// The comparisons of a test, and how many calls were accepted (at 0) and refused with each number.
@@ -182,7 +190,7 @@ impl Comparison {
         assert_eq!(answer, size, "{}", shown(text));
     }
 
-    /// The graph call and the interchange call.
+    /// The graph call, the interchange call and the islands call.
     pub fn graphs(&mut self, text: &[u8]) {
         self.list_call(
             text,
@@ -196,6 +204,33 @@ impl Comparison {
             norbelath::interchanges(text),
             norbelath::interchanges_into,
         );
+        self.islands(text);
+    }
+
+    /// Gives the answer, for tests that want to see islands.
+    pub fn islands(&mut self, text: &[u8]) -> Option<Islands> {
+        let expected = plain::islands(text)
+            .map(|(pairs, counts, islands)| Islands {
+                pairs,
+                counts,
+                islands,
+            })
+            .map_err(refusal);
+        let returned = norbelath::islands(text);
+        assert_eq!(returned, expected, "{}", shown(text));
+
+        let graph = expected.map(|x| Graph {
+            pairs: x.pairs,
+            counts: x.counts,
+        });
+        let len = enough(&mut self.random, ISLANDS);
+        let mut islands = Lent::new(&mut self.random, len, |x| x as u16);
+        self.written_list(text, graph, |pairs, counts| {
+            norbelath::islands_into(text, pairs, counts, &mut islands.slice)
+        });
+        let written = returned.as_ref().map_or(&[][..], |x| &x.islands);
+        assert!(islands.holds(written), "{}", shown(text));
+        returned.ok()
     }
 
     /// A call that lists pairs, returned and written.
@@ -210,12 +245,21 @@ impl Comparison {
             .map(|(pairs, counts)| Graph { pairs, counts })
             .map_err(refusal);
         assert_eq!(returned, expected, "{}", shown(text));
+        self.written_list(text, expected, |pairs, counts| into(text, pairs, counts));
+    }
 
+    /// The pairs and counts that a call writes.
+    fn written_list(
+        &mut self,
+        text: &[u8],
+        expected: Result<Graph, Refusal>,
+        call: impl FnOnce(&mut [u16], &mut [u16]) -> Result<GraphSize, Refusal>,
+    ) {
         let pairs_len = enough(&mut self.random, GRAPH_PAIRS);
         let counts_len = enough(&mut self.random, GRAPH_COUNTS);
         let mut pairs = Lent::new(&mut self.random, pairs_len, |x| x as u16);
         let mut counts = Lent::new(&mut self.random, counts_len, |x| x as u16);
-        let answer = into(text, &mut pairs.slice, &mut counts.slice);
+        let answer = call(&mut pairs.slice, &mut counts.slice);
         self.count(&answer);
         match &expected {
             Ok(graph) => {
@@ -232,16 +276,10 @@ impl Comparison {
         assert_eq!(answer, size, "{}", shown(text));
     }
 
-    /// The table call and the calls that list pairs with the first slice too short, the second, or both.
+    /// The table call and the calls that list pairs with the first slice too short, the second, or both; the islands
+    /// call with any one of its three, or all.
     pub fn short_tables(&mut self, text: &[u8]) {
         for (one, other) in [(true, false), (false, true), (true, true)] {
-            let length = |random: &mut Random, short, least| {
-                if short {
-                    too_short(random, least)
-                } else {
-                    enough(random, least)
-                }
-            };
             let len = length(&mut self.random, one, TABLE_TEXTS);
             let mut texts = Lent::new(&mut self.random, len, |x| x as u8);
             let len = length(&mut self.random, other, TABLE_ENDS);
@@ -265,5 +303,28 @@ impl Comparison {
                 self.count(&answer);
             }
         }
+        self.short_islands(text, [true, false, false]);
+        self.short_islands(text, [false, true, false]);
+        self.short_islands(text, [false, false, true]);
+        self.short_islands(text, [true, true, true]);
+    }
+
+    /// The islands call with these of its slices too short.
+    fn short_islands(&mut self, text: &[u8], short: [bool; 3]) {
+        let least = [GRAPH_PAIRS, GRAPH_COUNTS, ISLANDS];
+        let [mut pairs, mut counts, mut islands] = [0, 1, 2].map(|i| {
+            let len = length(&mut self.random, short[i], least[i]);
+            Lent::new(&mut self.random, len, |x| x as u16)
+        });
+        let answer = norbelath::islands_into(
+            text,
+            &mut pairs.slice,
+            &mut counts.slice,
+            &mut islands.slice,
+        );
+        let unchanged = [pairs, counts, islands].iter().all(|x| x.holds(&[]));
+        assert!(unchanged, "{}", shown(text));
+        assert_eq!(answer, Err(SHORT), "{}", shown(text));
+        self.count(&answer);
     }
 }

@@ -170,6 +170,21 @@ impl Tree {
     }
 }
 
+/// So many trees with these labels: chains of moves, each from another tree and of up to `longest` trees, mixed.
+pub fn chains(random: &mut Random, labels: &[u8], trees: usize, longest: usize) -> Vec<Tree> {
+    let mut made = Vec::new();
+    while made.len() < trees {
+        let mut tree = Tree::random(random, labels);
+        for _ in 0..1 + random.below(longest) {
+            made.push(tree.clone());
+            tree = tree.moved(random);
+        }
+    }
+    made.truncate(trees);
+    random.shuffle(&mut made);
+    made
+}
+
 fn token(random: &mut Random, blanks: usize, token: &[u8], out: &mut Vec<u8>) {
     while random.percent(blanks) {
         out.push(random.pick(b" \t\r\n"));

@@ -4,8 +4,8 @@ mod comparison;
 mod generator;
 
 use comparison::Comparison;
-use generator::{damage, labels, Random, Tree};
-use norbelath::{MAX_TEXT, MAX_TREES};
+use generator::{chains, damage, labels, Random, Tree};
+use norbelath::{Islands, MAX_TEXT, MAX_TREES};
 
 /// Every text of up to so many of these bytes.
 fn every_text(bytes: &[u8], most: usize) -> Vec<Vec<u8>> {
@@ -181,6 +181,49 @@ fn tables_of_trees() {
     compare.met("tables of trees", &least);
 }
 
+/// How many islands have two trees or more.
+fn groups(x: &Islands) -> usize {
+    let mut sizes = [0; MAX_TREES];
+    for &number in &x.islands {
+        sizes[number as usize] += 1;
+    }
+    sizes.iter().filter(|&&size| size > 1).count()
+}
+
+/// How many positions only a chain of several pairs joins to the smallest of their island.
+fn joined_by_chains(x: &Islands) -> usize {
+    let joined = (0..).zip(&x.islands).filter(|&(i, &number)| i != number);
+    joined
+        .filter(|&(i, &number)| !x.pairs.contains(&(number, i)))
+        .count()
+}
+
+/// Tables of several islands, whose trees are mixed; small ones and full ones.
+#[test]
+fn islands_of_trees() {
+    let mut compare = Comparison::new(12);
+    let (mut several, mut chained) = (0, 0);
+    for turn in 0..1_000 {
+        let trees = match turn % 20 {
+            0 => MAX_TREES,
+            _ => 2 + compare.random.below(30),
+        };
+        let leaves = 5 + compare.random.below([6, 16][turn % 2]);
+        let set = labels(&mut compare.random, leaves);
+        let longest = compare.random.pick(&[2, 4, 8, 20]);
+        let mut text = Vec::new();
+        for tree in chains(&mut compare.random, &set, trees, longest) {
+            text.extend(tree.text(&mut compare.random, 2));
+        }
+        let answer = compare.islands(&text).expect("a table of trees");
+        several += usize::from(groups(&answer) > 1);
+        chained += joined_by_chains(&answer);
+    }
+    compare.met("islands of trees", &[(0, 1_000)]);
+    println!("{several} tables of several islands, {chained} trees joined by chains");
+    assert!(several >= 500 && chained >= 5_000);
+}
+
 /// What the pair lister prints: small tables, whole and damaged, the largest, and texts around the limit.
 #[test]
 fn sheets() {
@@ -224,7 +267,7 @@ fn full_table() {
     text.extend(b" \t;");
     compare.table(&text);
     compare.graphs(&text);
-    compare.met("full table", &[(0, 3), (6, 3)]);
+    compare.met("full table", &[(0, 4), (6, 4)]);
 }
 
 /// Text lengths around the limit. Too long goes before anything in the text, and too short a slice before that.
@@ -294,5 +337,5 @@ fn short_slices() {
         }
         compare.short_tables(&text);
     }
-    compare.met("short slices", &[(7, 18_000)]);
+    compare.met("short slices", &[(7, 26_000)]);
 }

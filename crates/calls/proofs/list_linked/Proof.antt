@@ -10,8 +10,8 @@ use Rattle.meaning.specs.Limits.{pairNumbers}
 use Rattle.meaning.specs.Answer.{GraphMemory}
 use Rattle.meaning.specs.Calls.{graphRead}
 use Rattle.graph.specs.Graph.{slices}
-use Rattle.calls.specs.Lent.{TableLent}
-use Rattle.calls.proofs.Lent.{measured}
+use Rattle.reading.specs.Lent.{TableLent}
+use Rattle.reading.proofs.Lent.{measured}
 use Rattle.calls.proofs.list_linked.Statement.{statement}
 use Rattle.calls.proofs.list_linked.Tie as tie
 

@@ -1,13 +1,9 @@
 -- `pair_lister::main` meets its contract.
 -- Assumes nothing.
-use mathlib.Core.Path.{_≡_, sym, subst}
-use mathlib.Core.List.{List}
-use Prim.Native.Nat.{ℕ}
+use mathlib.Core.Path.{sym}
 use lib.Seq.{length-take-le}
 use borrow.Author.Needs.{needs}
-use Rattle.console.specs.Input.{InputWithin}
-use Rattle.console.specs.declared.Input.{Input}
-use Rattle.console.specs.declared.Input.the-variants as input
+use Rattle.console.proofs.Whole.{whole-within}
 use Rattle.pair_lister.proofs.main.Statement.{statement}
 use Rattle.pair_lister.proofs.main.Tie as tie
 
@@ -28,10 +24,6 @@ enum-told c = search needs
 
 returns : tie.Need-returns
 returns c = search needs
-
--- the bytes of the input are at the start of the buffer
-whole-within : (buf : List ℕ) {r : Input} (n : ℕ) → r ≡ input.Whole n → InputWithin buf r → InputWithin buf (input.Whole n)
-whole-within buf n e h = subst (InputWithin buf) e h
 
 array-share-prefix-text : tie.Need-array-share-prefix-text
 array-share-prefix-text c =

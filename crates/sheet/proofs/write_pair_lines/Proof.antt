@@ -5,7 +5,8 @@ use mathlib.Core.Path.{refl}
 use native.Mathlib.Omega.{arith}
 use lib.ListN.{length}
 use Rattle.lent.proofs.Runs.{wrote-length}
-use Rattle.sheet.proofs.Turns.{PairsSoFar, pairs-long, pair-fits, pairs-more, pairs-done}
+use Rattle.graph.proofs.Listed.{pairs-long}
+use Rattle.sheet.proofs.Turns.{PairsSoFar, pair-fits, pairs-more, pairs-done}
 use Rattle.sheet.proofs.write_pair_lines.Statement.{statement}
 use Rattle.sheet.proofs.write_pair_lines.Tie as tie
 

@@ -6,7 +6,7 @@ use borrow.Author.Needs.{needs}
 use lib.ListN.{replicate, length-replicate}
 use Rattle.meaning.specs.Limits.{maxTrees, pairNumbers}
 use Rattle.graph.specs.Graph.{slices, ListRoom}
-use Rattle.sheet.proofs.Prints.{listed-fits, listed-wrote}
+use Rattle.sheet.proofs.Shown.{listed-fits, listed-wrote}
 use Rattle.sheet.proofs.write_table_sheet.Statement.{statement}
 use Rattle.sheet.proofs.write_table_sheet.Tie as tie
 

@@ -1,10 +1,10 @@
--- `calls::read_lent_table` meets its contract.
+-- `reading::limited::read_lent_table` meets its contract.
 -- Assumes nothing.
 use borrow.Author.Needs.{needs}
 use Rattle.meaning.specs.Reading.{readTable}
-use Rattle.calls.proofs.Lent.{lent-withheld, lent-read}
-use Rattle.calls.proofs.read_lent_table.Statement.{statement}
-use Rattle.calls.proofs.read_lent_table.Tie as tie
+use Rattle.reading.proofs.Lent.{lent-withheld, lent-read}
+use Rattle.reading.proofs.limited.read_lent_table.Statement.{statement}
+use Rattle.reading.proofs.limited.read_lent_table.Tie as tie
 
 withheld-requires : tie.Need-withheld-requires
 withheld-requires c κs = search needs

@@ -1,23 +1,20 @@
--- What a call reads of its text, once its lent slices are measured, and what the cut call asks of its part.
+-- What a call reads of its text, once its lent slices are measured.
 -- Assumes nothing.
 use mathlib.Core.Path.{_≡_}
 use mathlib.Core.List.{List}
 use mathlib.Core.Bool.{Bool, true, false, cond}
-use Prim.Native.Nat.{ℕ, _≤_}
+use Prim.Native.Nat.{ℕ}
 use lib.Dec.{ltb}
 use lib.ListN.{length}
-use Rattle.meaning.specs.Limits.{forestBytes, textBytes}
+use Rattle.meaning.specs.Limits.{textBytes}
 use Rattle.meaning.specs.Tree.{Tree as Topology}
-use Rattle.meaning.specs.Move.{cutAt, forest}
-use Rattle.meaning.specs.Answer.{Answer, accepted, refusal, Outcome, textOf, conclude}
-use Rattle.meaning.specs.Calls.{hasCut}
+use Rattle.meaning.specs.Answer.{Answer, accepted, refusal}
 use Rattle.held.specs.Held.{nodes}
 use Rattle.held.specs.Kept.{Keeps, KeepsAll}
-use Rattle.held.specs.declared.Tree.{Tree}
 use Rattle.reading.specs.Paper.{goesOn, stepAnswer}
 use Rattle.reading.specs.declared.Step.{Step}
 use Rattle.reading.specs.declared.TreeRead.{TreeRead}
 use Rattle.reading.specs.declared.tables.TableRead.{TableRead}
 
 -- the line for which a call reads nothing of a text of so many bytes: 7 where it is not lent enough, 8 where the text is too long; 0 where it reads
 abbrev pub withheld : Bool → ℕ → ℕ
@@ -36,14 +33,3 @@ TreeLent r a = LentMeets nodes (Keeps (r .tree)) (r .step) a
 -- of a table, its trees
 abbrev pub TableLent : TableRead → Answer (List Topology) → Type 0
 TableLent r a = LentMeets length (KeepsAll (r .table)) (r .step) a
-
--- the record keeps a tree of so many nodes, and there is room for any forest text
-pub record CutRoom (tree : Tree) (count len : ℕ) : Type 0 where
-  pub topology : Topology
-  pub keeps : Keeps tree topology
-  pub size : count ≡ nodes topology
-  pub room : forestBytes ≤ len
-
--- what the cut call leaves of the tree t
-abbrev pub cutText : Topology → ℕ → List ℕ → Outcome ℕ (List ℕ)
-cutText t c out = conclude (hasCut c t) out λ u. textOf (forest (cutAt u c)) out

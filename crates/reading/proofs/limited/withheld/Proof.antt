@@ -1,10 +1,10 @@
--- `calls::withheld` meets its contract.
+-- `reading::limited::withheld` meets its contract.
 -- Assumes nothing.
 use borrow.Author.Tests.{not-true, not-false, le-ltb, lt-ltb}
 use lib.ListN.{length}
 use Rattle.meaning.specs.Limits.{textBytes}
-use Rattle.calls.proofs.withheld.Statement.{statement}
-use Rattle.calls.proofs.withheld.Tie as tie
+use Rattle.reading.proofs.limited.withheld.Statement.{statement}
+use Rattle.reading.proofs.limited.withheld.Tie as tie
 
 returns : tie.Need-returns
 returns c = rw (not-true (c .before .args .fits) (c .if1 .taken))

@@ -9,16 +9,15 @@ use lib.Dec.{ltb}
 use lib.ListN.{length}
 use Rattle.meaning.specs.Limits.{textBytes}
 use Rattle.meaning.specs.Reading.{Read}
-use Rattle.meaning.specs.Answer.{Answer, accepted, refusal, Outcome, conclude}
+use Rattle.meaning.specs.Answer.{Answer, accepted, refusal}
 use Rattle.meaning.specs.Calls.{lent, limited, answered}
 use Rattle.meaning.proofs.Logic.{clash}
-use Rattle.reading.specs.Paper.{stepAnswer, StepMeets, goes-on, refuses}
+use Rattle.reading.specs.Paper.{refusalOf, stepAnswer, StepMeets, goes-on, refuses}
 use Rattle.reading.specs.declared.Refusal.{Refusal}
 use Rattle.reading.specs.declared.Step.{Step}
 use Rattle.reading.specs.declared.Step.the-variants.{Next, Refused as StepRefused}
 use Rattle.reading.proofs.Steps.{going-is}
-use Rattle.calls.specs.Lent.{withheld, LentMeets, accepts, denies}
-use Rattle.calls.specs.Paper.{refusalOf}
+use Rattle.reading.specs.Lent.{withheld, LentMeets, accepts, denies}
 
 -- what was accepted
 pub record Given {A : Type 0} (size : A → ℕ) (Keep : A → Type 0) (a : Answer A) (k : ℕ) : Type 0 where
@@ -66,7 +65,3 @@ module _ {A : Type 0} {size : A → ℕ} {Keep : A → Type 0} {step : Step} whe
   -- a call measures its slices as its definition does
   pub measured : (a : Answer A) {b c : Bool} → b ≡ c → LentMeets size Keep step (lent b a) → LentMeets size Keep step (lent c a)
   measured a e m = rw e at m
-
--- a call goes on with what was accepted
-pub concluded : {A B M : Type 0} {a : Answer A} {x : A} (memory : M) (done : A → Outcome B M) → a ≡ accepted x → done x ≡ conclude a memory done
-concluded memory done e = rw e

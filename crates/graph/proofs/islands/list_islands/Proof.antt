@@ -1,0 +1,40 @@
+-- `graph::islands::list_islands` meets its contract.
+-- Assumes nothing.
+use borrow.Author.Needs.{needs}
+use Rattle.graph.proofs.Unite.{islands-room, islands-written}
+use Rattle.graph.proofs.islands.list_islands.Statement.{statement}
+use Rattle.graph.proofs.islands.list_islands.Tie as tie
+
+list-pairs-requires : tie.Need-list-pairs-requires
+list-pairs-requires c κs = search needs
+
+number-islands-requires : tie.Need-number-islands-requires
+number-islands-requires c κs =
+    let o = c .before .before .before .before .before .before in
+    islands-room (o .before .before .before .before .before .before .pre) (o .list-pairs .ensures)
+
+same-length : tie.Need-same-length
+same-length c = search needs
+
+same-length-2 : tie.Need-same-length-2
+same-length-2 c = search needs
+
+same-length-3 : tie.Need-same-length-3
+same-length-3 c = search needs
+
+returns : tie.Need-returns
+returns c =
+    let w = c .before .before in
+    let o = w .before .before .before .before .before .before .before in
+    islands-written (o .before .before .before .before .before .before .pre) (o .list-pairs .ensures) (w .number-islands .ensures)
+
+pub list-islands-spec : {M : Type 1} → statement M
+list-islands-spec =
+    tie.close
+    (tie.spec
+    list-pairs-requires
+    number-islands-requires
+    same-length
+    same-length-2
+    same-length-3
+    returns)

@@ -1,0 +1,45 @@
+-- The sheet of a table whose pairs and neighbour counts were listed.
+-- Assumes nothing.
+use mathlib.Core.List.{List}
+use Prim.Native.Nat.{ℕ}
+use native.Mathlib.Omega.{arith}
+use lib.ListN.{length}
+use Rattle.meaning.specs.Limits.{sheetBytes}
+use Rattle.meaning.specs.Tree.{Tree as Topology}
+use Rattle.meaning.specs.Listing.{Pair}
+use Rattle.meaning.specs.Answer.{GraphMemory}
+use Rattle.meaning.specs.Sheet.{sheet, SheetOf, shows-pairs}
+use Rattle.meaning.proofs.Counts.{counts-length}
+use Rattle.lent.specs.Runs.{Wrote}
+use Rattle.lent.proofs.Runs.{starts-with}
+use Rattle.held.specs.Kept.{KeepsAll}
+use Rattle.held.specs.declared.Table.{Table}
+use Rattle.pairs.specs.declared.Link.the-variants.{Move}
+use Rattle.graph.specs.Graph.{ListRoom, GraphWritten}
+use Rattle.graph.specs.Listed.{PairsListed}
+use Rattle.graph.proofs.Listed.{graph-pairs}
+use Rattle.sheet.specs.Lines.{TreesListed, SheetFits}
+use Rattle.sheet.specs.Printed.{TableFits, ShownAll}
+
+module _ {table : Table} {memory memory′ : GraphMemory} {m : ℕ} (room : ListRoom memory) (g : GraphWritten Move table memory memory′ m) where
+  module _ (ts : List Topology) (h : KeepsAll table ts) where
+    abbrev linked : List Pair
+    linked = g ts h .linked
+
+    trees-listed : TreesListed table (memory′ .counts) ts linked
+    trees-listed = record { keeps = h; listing = g ts h .listing; counted = starts-with (g ts h .in-counts) (omega (arith, counts-length (length ts) linked, h .few, room .counts-room)) }
+
+    pairs-listed : PairsListed (memory′ .pairs) m linked
+    pairs-listed = graph-pairs room (h .few) (g ts h)
+
+  pub listed-fits : {len : ℕ} → TableFits table sheetBytes len → SheetFits table (memory′ .pairs) (memory′ .counts) m len
+  listed-fits f =
+      let k = f .kept in
+      record { trees = k .trees; linked = linked (k .trees) (k .keeps); trees-listed = trees-listed (k .trees) (k .keeps); pairs-listed = pairs-listed (k .trees) (k .keeps); room = f .room }
+
+  pub listed-wrote : {out out′ : List ℕ} {r : ℕ}
+      → ((ts : List Topology) (ps : List Pair) → TreesListed table (memory′ .counts) ts ps → PairsListed (memory′ .pairs) m ps → Wrote (sheet ts ps) out out′ 0 r)
+      → ShownAll SheetOf table out out′ r
+  listed-wrote wrote ts h =
+      let ps = linked ts h in
+      record { bytes = sheet ts ps; shows = shows-pairs ps (g ts h .listing); wrote = wrote ts ps (trees-listed ts h) (pairs-listed ts h) }
