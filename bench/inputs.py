@@ -20,6 +20,9 @@ Full tables, 160 trees of 64 leaves:
     mixed_chains  a few chains of random moves, each from a random tree, in
                  random order
 
+Without copies: `distinct_of_near_copies`, the first tree of each topology of
+`near_copies`.
+
 Growth, for `unrelated` and `chain`: the first 20, 40 and 80 trees of the full
 table, and 160 trees of 8, 16 and 32 leaves.  The full tables are the last step
 of both.
@@ -201,6 +204,14 @@ def copies(rng, leaves):
     return [random_tree(rng, leaves)] * TREES
 
 
+def distinct(trees):
+    """The first tree of each topology."""
+    first = {}
+    for tree in trees:
+        first.setdefault(topology(tree), tree)
+    return list(first.values())
+
+
 FULL_TABLES = (unrelated, chain, near_copies, combs, copies, interchange_chain, mixed_chains)
 
 
@@ -214,24 +225,30 @@ def node_text(tree):
     return "(%s,%s)" % (node_text(tree[0]), node_text(tree[1]))
 
 
-def lines_of(make, leaves):
-    """The lines of a table of 160 trees; the seed is the kind and the size."""
+def text_of(trees):
+    """The text of a table, one tree to a line."""
+    return "".join(node_text(tree) + ";\n" for tree in trees)
+
+
+def table_of(make, leaves):
+    """A table of 160 trees, children swapped; the seed is the kind and the
+    size."""
     rng = random.Random("%s %d" % (make.__name__, leaves))
-    trees = make(rng, leaves)
-    return [node_text(swapped(rng, tree)) + ";\n" for tree in trees]
+    return [swapped(rng, tree) for tree in make(rng, leaves)]
 
 
 def inputs():
     """Yield (name, text) for each input, growing ones from small to large."""
-    full = {make: lines_of(make, LEAVES) for make in FULL_TABLES}
-    for make, lines in full.items():
-        yield make.__name__, "".join(lines)
+    full = {make: table_of(make, LEAVES) for make in FULL_TABLES}
+    for make, trees in full.items():
+        yield make.__name__, text_of(trees)
+    yield "distinct_of_near_copies", text_of(distinct(full[near_copies]))
     for make in (unrelated, chain):
-        for trees in FEWER_TREES:
-            yield "%s_%dx%d" % (make.__name__, trees, LEAVES), "".join(full[make][:trees])
+        for number in FEWER_TREES:
+            yield "%s_%dx%d" % (make.__name__, number, LEAVES), text_of(full[make][:number])
     for make in (unrelated, chain):
         for leaves in FEWER_LEAVES:
-            yield "%s_%dx%d" % (make.__name__, TREES, leaves), "".join(lines_of(make, leaves))
+            yield "%s_%dx%d" % (make.__name__, TREES, leaves), text_of(table_of(make, leaves))
 
 
 def write_inputs(directory):

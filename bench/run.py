@@ -38,7 +38,7 @@ EMPTY_REPEAT_FACTOR = 20
 # Below this a time is mostly the noise of starting the process.
 SHORTEST_FOR_RATIO_MS = 0.05
 
-ROW = "%-17s %6s %7s %7s %10s %10s %11s"
+ROW = "%-23s %6s %7s %7s %10s %10s %11s"
 
 
 class Failed(Exception):

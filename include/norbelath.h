@@ -1,9 +1,10 @@
 /*
  * Norbelath: rooted binary trees as texts, and which of them are one prune and regraft apart.
  *
- * Eight calls over lent memory. They allocate nothing, keep nothing between calls and may be called from several
- * threads at once; the table, graph, interchange and islands calls use up to 120 KB of stack, the sheet call up to
- * 170 KB. Any bytes may be given as a text: what is not as it should be is refused, with the reason and the place.
+ * Nine calls over lent memory. They allocate nothing, keep nothing between calls and may be called from several
+ * threads at once. On x86-64 the table, graph, interchange and islands calls use up to 140 KB of stack, and the sheet
+ * call up to 210 KB. Any bytes may be given as a text: what is not as it should be is refused, with the reason and the
+ * place.
  *
  * A text is a pointer and its length in bytes; it needs no byte 0 at its end. A lent slice is a pointer and its length in
  * elements. No pointer is NULL. The slices and numbers that a call may write overlap neither each other nor a text.
@@ -15,7 +16,8 @@
  *   sheet
  *   pair            1 for yes, 0 for no          0
  *   table           bytes written                trees
- *   graph,          trees                        pairs
+ *   graph, graph    trees                        pairs
+ *   choosing,
  *   interchanges,
  *   islands
  *   refused         which text: 0, or 1 for      the place: an offset in that text,
@@ -23,6 +25,11 @@
  *
  * An accepted call writes from the start of each lent slice on and changes nothing behind what it writes. A refusal
  * changes no lent slice.
+ *
+ * Trees of one topology are copies of each other, however they are written; two copies are never a pair. The first
+ * position of a topology is the smallest position whose tree has it. The graph call and the islands call merge copies:
+ * only first positions stand in pairs, and a later copy is in none. The graph choosing call can keep copies apart, so
+ * that every position may stand in pairs; the interchange call always keeps them apart.
  */
 #ifndef NORBELATH_H
 #define NORBELATH_H
@@ -40,8 +47,8 @@ extern "C" {
 
 /*
  * The least lengths of the lent slices, in elements. A shorter slice is refused, a longer one is used as far as
- * needed. The interchange call has those of the graph call; so has the islands call, and NORBELATH_ISLANDS for its
- * third slice.
+ * needed. The graph choosing call has those of the graph call, the interchange call those of its pairs and counts; the
+ * islands call has those of the graph call, and NORBELATH_ISLANDS for its fourth slice.
  */
 #define NORBELATH_FORM_OUT 309
 #define NORBELATH_CUT_OUT 307
@@ -49,8 +56,13 @@ extern "C" {
 #define NORBELATH_TABLE_ENDS 160
 #define NORBELATH_GRAPH_PAIRS 25440
 #define NORBELATH_GRAPH_COUNTS 160
+#define NORBELATH_GRAPH_FIRSTS 160
 #define NORBELATH_ISLANDS 160
 #define NORBELATH_SHEET_OUT 220902
+
+/* The choices of the graph choosing call. Any number but 0 keeps copies apart. */
+#define NORBELATH_MERGE_COPIES 0
+#define NORBELATH_KEEP_COPIES 1
 
 /* Results. The place of a refusal is given behind each; 7, 8 and 9 have place 0. */
 #define NORBELATH_ACCEPTED 0
@@ -92,18 +104,31 @@ uint8_t norbelath_table(const uint8_t *text, size_t text_len,
                         uint64_t *first, uint64_t *second);
 
 /*
- * Graph call: the pairs of trees of a text that are one move apart, pair k as pairs[2k] < pairs[2k + 1], which are
- * positions counted from 0, in order of the first and then of the second. counts[i] is the number of pairs that tree i is in.
+ * Graph call: the pairs of trees of a text that are one move apart, copies merged. Pair k is pairs[2k] < pairs[2k + 1],
+ * which are first positions, counted from 0, in order of the smaller and then of the larger. counts[i] is the number of
+ * pairs that tree i is in, so 0 for a later copy, and firsts[i] is the first position of its topology.
  */
 uint8_t norbelath_graph(const uint8_t *text, size_t text_len,
                         uint16_t *pairs, size_t pairs_len,
                         uint16_t *counts, size_t counts_len,
+                        uint16_t *firsts, size_t firsts_len,
                         uint64_t *first, uint64_t *second);
 
 /*
- * Interchange call: the pairs of trees of a text that are one nearest-neighbour interchange apart, in the order and
- * the slices of the graph call. An interchange takes a node that is neither the root nor a child of the root and
- * regrafts it on the edge above its aunt, the sibling of its parent.
+ * Graph choosing call: with NORBELATH_MERGE_COPIES as the choice, what the graph call gives. With any other number
+ * copies are kept apart: the pairs and counts are those of all positions, so that a copy has the neighbours and the
+ * count of its first. The firsts are the same under either choice.
+ */
+uint8_t norbelath_graph_choosing(const uint8_t *text, size_t text_len, uint8_t choice,
+                                 uint16_t *pairs, size_t pairs_len,
+                                 uint16_t *counts, size_t counts_len,
+                                 uint16_t *firsts, size_t firsts_len,
+                                 uint64_t *first, uint64_t *second);
+
+/*
+ * Interchange call: the pairs of trees of a text that are one nearest-neighbour interchange apart, copies kept apart,
+ * in the order and the first two slices of the graph call. An interchange takes a node that is neither the root nor a
+ * child of the root and regrafts it on the edge above its aunt, the sibling of its parent.
  */
 uint8_t norbelath_interchanges(const uint8_t *text, size_t text_len,
                                uint16_t *pairs, size_t pairs_len,
@@ -111,13 +136,14 @@ uint8_t norbelath_interchanges(const uint8_t *text, size_t text_len,
                                uint64_t *first, uint64_t *second);
 
 /*
- * Islands call: the pairs and counts of the graph call, and islands[i], the number of the island of tree i. An island
- * is a group of trees that chains of those pairs join; its number is the smallest position in it. Copies of a tree are
- * no pair, so only pairs with other trees put them in one island.
+ * Islands call: the pairs, counts and firsts of the graph call, and islands[i], the number of the island of tree i. An
+ * island is a group of first positions that chains of those pairs join, with their copies; its number is the smallest
+ * position in it. So a copy has the island of its first, with neighbours or without.
  */
 uint8_t norbelath_islands(const uint8_t *text, size_t text_len,
                           uint16_t *pairs, size_t pairs_len,
                           uint16_t *counts, size_t counts_len,
+                          uint16_t *firsts, size_t firsts_len,
                           uint16_t *islands, size_t islands_len,
                           uint64_t *first, uint64_t *second);
 

@@ -86,9 +86,10 @@ static void pair(const char *text, const char *other, uint8_t result, uint64_t f
 
 static uint8_t texts[NORBELATH_TABLE_TEXTS];
 static uint32_t ends[NORBELATH_TABLE_ENDS];
-static uint16_t pairs[NORBELATH_GRAPH_PAIRS];
-static uint16_t counts[NORBELATH_GRAPH_COUNTS];
-/* One number more than the islands call asks for. */
+/* The slices of the calls that list pairs, each with one number more than is asked for. */
+static uint16_t pairs[NORBELATH_GRAPH_PAIRS + 1];
+static uint16_t counts[NORBELATH_GRAPH_COUNTS + 1];
+static uint16_t first_of[NORBELATH_GRAPH_FIRSTS + 1];
 static uint16_t island_of[NORBELATH_ISLANDS + 1];
 
 static struct reply table(const char *text, size_t text_len, size_t texts_len, size_t ends_len)
@@ -109,73 +110,133 @@ static void table_refused(const char *text, size_t text_len, size_t texts_len, s
           "a refusal changed a slice");
 }
 
-/* A call that lists pairs, and its name: the graph call, the interchange call or the islands call. */
-struct lister {
-    const char *name;
-    uint8_t (*call)(const uint8_t *text, size_t text_len, uint16_t *pairs, size_t pairs_len, uint16_t *counts,
-                    size_t counts_len, uint64_t *first, uint64_t *second);
+/* How much is lent to a call that lists pairs. Only the islands call has islands, and interchanges have no firsts. */
+struct lent {
+    size_t pairs, counts, firsts, islands;
 };
 
-/* The islands call, lent enough for the islands, and lent one number too little. */
-static uint8_t enough_islands(const uint8_t *text, size_t text_len, uint16_t *to_pairs, size_t pairs_len,
-                              uint16_t *to_counts, size_t counts_len, uint64_t *first, uint64_t *second)
+static const struct lent enough = {NORBELATH_GRAPH_PAIRS, NORBELATH_GRAPH_COUNTS, NORBELATH_GRAPH_FIRSTS,
+                                   NORBELATH_ISLANDS};
+static const struct lent more = {NORBELATH_GRAPH_PAIRS + 1, NORBELATH_GRAPH_COUNTS + 1, NORBELATH_GRAPH_FIRSTS + 1,
+                                 NORBELATH_ISLANDS + 1};
+
+/* The pairs that a call lists: one move apart, copies merged or kept apart, or one interchange apart. */
+enum kind { MERGED, KEPT_APART, INTERCHANGES };
+
+/* A call that lists pairs, and which slices it has besides pairs and counts. */
+struct lister {
+    const char *name;
+    uint8_t (*call)(const uint8_t *text, size_t text_len, struct lent lent, uint64_t *first, uint64_t *second);
+    enum kind kind;
+    int has_firsts, has_islands;
+};
+
+static uint8_t call_graph(const uint8_t *text, size_t text_len, struct lent lent, uint64_t *first, uint64_t *second)
 {
-    return norbelath_islands(text, text_len, to_pairs, pairs_len, to_counts, counts_len, island_of, NORBELATH_ISLANDS,
-                             first, second);
+    return norbelath_graph(text, text_len, pairs, lent.pairs, counts, lent.counts, first_of, lent.firsts, first,
+                           second);
 }
 
-static uint8_t too_few_islands(const uint8_t *text, size_t text_len, uint16_t *to_pairs, size_t pairs_len,
-                               uint16_t *to_counts, size_t counts_len, uint64_t *first, uint64_t *second)
+static uint8_t call_choosing(const uint8_t *text, size_t text_len, uint8_t choice, struct lent lent, uint64_t *first,
+                             uint64_t *second)
 {
-    return norbelath_islands(text, text_len, to_pairs, pairs_len, to_counts, counts_len, island_of,
-                             NORBELATH_ISLANDS - 1, first, second);
+    return norbelath_graph_choosing(text, text_len, choice, pairs, lent.pairs, counts, lent.counts, first_of,
+                                    lent.firsts, first, second);
 }
 
-static const struct lister graph = {"graph", norbelath_graph};
-static const struct lister interchanges = {"interchanges", norbelath_interchanges};
-static const struct lister islands = {"islands", enough_islands};
-static const struct lister short_islands = {"islands", too_few_islands};
+static uint8_t call_merging(const uint8_t *text, size_t text_len, struct lent lent, uint64_t *first, uint64_t *second)
+{
+    return call_choosing(text, text_len, NORBELATH_MERGE_COPIES, lent, first, second);
+}
 
-static struct reply list(struct lister l, const char *text, size_t text_len, size_t pairs_len, size_t counts_len)
+static uint8_t call_keeping(const uint8_t *text, size_t text_len, struct lent lent, uint64_t *first, uint64_t *second)
+{
+    return call_choosing(text, text_len, NORBELATH_KEEP_COPIES, lent, first, second);
+}
+
+static uint8_t call_with_255(const uint8_t *text, size_t text_len, struct lent lent, uint64_t *first, uint64_t *second)
+{
+    return call_choosing(text, text_len, 255, lent, first, second);
+}
+
+static uint8_t call_interchanges(const uint8_t *text, size_t text_len, struct lent lent, uint64_t *first,
+                                 uint64_t *second)
+{
+    return norbelath_interchanges(text, text_len, pairs, lent.pairs, counts, lent.counts, first, second);
+}
+
+static uint8_t call_islands(const uint8_t *text, size_t text_len, struct lent lent, uint64_t *first, uint64_t *second)
+{
+    return norbelath_islands(text, text_len, pairs, lent.pairs, counts, lent.counts, first_of, lent.firsts, island_of,
+                             lent.islands, first, second);
+}
+
+static const struct lister listers[] = {
+    {"graph", call_graph, MERGED, 1, 0},
+    {"graph choosing 0", call_merging, MERGED, 1, 0},
+    {"graph choosing 1", call_keeping, KEPT_APART, 1, 0},
+    {"graph choosing 255", call_with_255, KEPT_APART, 1, 0},
+    {"interchanges", call_interchanges, INTERCHANGES, 0, 0},
+    {"islands", call_islands, MERGED, 1, 1},
+};
+
+#define LISTERS (sizeof listers / sizeof listers[0])
+
+static struct reply list(struct lister l, const char *text, size_t text_len, struct lent lent)
 {
     struct reply r = {99, 99, 99};
     memset(pairs, UNTOUCHED, sizeof pairs);
     memset(counts, UNTOUCHED, sizeof counts);
+    memset(first_of, UNTOUCHED, sizeof first_of);
     memset(island_of, UNTOUCHED, sizeof island_of);
-    r.result = l.call((const uint8_t *)text, text_len, pairs, pairs_len, counts, counts_len, &r.first, &r.second);
+    r.result = l.call((const uint8_t *)text, text_len, lent, &r.first, &r.second);
     return r;
 }
 
-static void list_refused(struct lister l, const char *text, size_t text_len, size_t pairs_len, size_t counts_len,
-                         uint8_t number, uint64_t place)
+static void list_refused(struct lister l, const char *text, size_t text_len, struct lent lent, uint8_t number,
+                         uint64_t place)
 {
-    struct reply r = list(l, text, text_len, pairs_len, counts_len);
+    struct reply r = list(l, text, text_len, lent);
     check(same(r, number, 0, place), l.name, text, "another refusal was expected");
     check(untouched(pairs, 0, sizeof pairs) && untouched(counts, 0, sizeof counts) &&
-              untouched(island_of, 0, sizeof island_of),
+              untouched(first_of, 0, sizeof first_of) && untouched(island_of, 0, sizeof island_of),
           l.name, text, "a refusal changed a slice");
 }
 
-/* The numbers of `expected` are i and then j of each pair, those of `neighbours` are the counts. */
-static void listed(struct lister l, const char *text, const uint16_t *expected, size_t number_of_pairs,
-                   const uint16_t *neighbours, size_t number_of_trees)
+/* What a slice of so many bytes holds: these numbers, and behind them what it held before. */
+static void holds(struct lister l, const char *text, const uint16_t *slice, size_t size, const uint16_t *expected,
+                  size_t numbers, const char *what)
 {
-    const size_t pairs_size = 2 * number_of_pairs * sizeof pairs[0], counts_size = number_of_trees * sizeof counts[0];
-    struct reply r = list(l, text, strlen(text), NORBELATH_GRAPH_PAIRS, NORBELATH_GRAPH_COUNTS);
-    check(same(r, NORBELATH_ACCEPTED, number_of_trees, number_of_pairs), l.name, text, "another answer was expected");
-    check(memcmp(pairs, expected, pairs_size) == 0 && memcmp(counts, neighbours, counts_size) == 0, l.name, text,
-          "other pairs were expected");
-    check(untouched(pairs, pairs_size, sizeof pairs) && untouched(counts, counts_size, sizeof counts), l.name, text,
-          "a slice was changed behind what was written");
+    const size_t written = numbers * sizeof expected[0];
+    check(memcmp(slice, expected, written) == 0, l.name, text, what);
+    check(untouched(slice, written, size), l.name, text, "a slice was changed behind what was written");
 }
 
-/* What the last call wrote for the islands of so many trees. */
-static void numbered(const char *text, const uint16_t *expected, size_t number_of_trees)
+/* A table, with the first position and the island of each of its trees. */
+struct sample {
+    const char *text;
+    size_t trees;
+    const uint16_t *firsts, *islands;
+};
+
+static void listed_in(struct lent lent, struct lister l, struct sample t, const uint16_t *expected,
+                      size_t number_of_pairs, const uint16_t *neighbours)
 {
-    const size_t size = number_of_trees * sizeof island_of[0];
-    check(memcmp(island_of, expected, size) == 0, "islands", text, "other islands were expected");
-    check(untouched(island_of, size, sizeof island_of), "islands", text,
-          "a slice was changed behind what was written");
+    struct reply r = list(l, t.text, strlen(t.text), lent);
+    check(same(r, NORBELATH_ACCEPTED, t.trees, number_of_pairs), l.name, t.text, "another answer was expected");
+    holds(l, t.text, pairs, sizeof pairs, expected, 2 * number_of_pairs, "other pairs were expected");
+    holds(l, t.text, counts, sizeof counts, neighbours, t.trees, "other counts were expected");
+    holds(l, t.text, first_of, sizeof first_of, t.firsts, l.has_firsts ? t.trees : 0, "other firsts were expected");
+    holds(l, t.text, island_of, sizeof island_of, t.islands, l.has_islands ? t.trees : 0,
+          "other islands were expected");
+}
+
+/* The numbers of `expected` are i and then j of each pair, those of `neighbours` are the counts. */
+static void listed(struct lister l, struct sample t, const uint16_t *expected, size_t number_of_pairs,
+                   const uint16_t *neighbours)
+{
+    listed_in(enough, l, t, expected, number_of_pairs, neighbours);
+    listed_in(more, l, t, expected, number_of_pairs, neighbours);
 }
 
 /* One byte more than the sheet call asks for. */
@@ -273,66 +334,134 @@ static void tables(void)
     table_refused(text, strlen(text), bytes, numbers - 1, NORBELATH_SHORT_SLICE, 0);
 }
 
-/* What all three calls give: of three leaves, two trees that differ are one interchange apart. Copies are no pair. */
-static void lists(struct lister l)
+/* No trees, one, and copies alone, which are no pair. */
+static void no_pairs(struct lister l)
 {
-    const size_t numbers = NORBELATH_GRAPH_PAIRS, trees = NORBELATH_GRAPH_COUNTS;
-    const char *text = "((2,1),3);\n(3,(2,1));\n(1,(2,3));\n((1,3),2);\n";
-    const uint16_t expected[] = {0, 2, 0, 3, 1, 2, 1, 3, 2, 3};
-    const uint16_t neighbours[] = {2, 2, 3, 3};
-    listed(l, text, expected, 5, neighbours, 4);
-    listed(l, "(1,2); (2,1);", expected, 0, (const uint16_t[]){0, 0}, 2);
-    listed(l, "", expected, 0, neighbours, 0);
+    const uint16_t zeros[] = {0, 0};
+    listed(l, (struct sample){"", 0, zeros, zeros}, zeros, 0, zeros);
+    listed(l, (struct sample){" 7 ;", 1, zeros, zeros}, zeros, 0, zeros);
+    listed(l, (struct sample){"(1,2); (2,1);", 2, zeros, zeros}, zeros, 0, zeros);
+}
 
-    list_refused(l, "(1,2);(1,3);", 12, numbers, trees, NORBELATH_LABELS_DIFFER, 11);
-    list_refused(l, text, strlen(text), numbers - 1, trees, NORBELATH_SHORT_SLICE, 0);
-    list_refused(l, text, strlen(text), numbers, trees - 1, NORBELATH_SHORT_SLICE, 0);
+/* Two topologies twice and one once. Of three leaves, two trees that differ are one interchange apart. */
+static void copies(struct lister l)
+{
+    const struct sample t = {"((2,1),3);\n(3,(2,1));\n(1,(2,3));\n((1,3),2);\n(1,(3,2));\n", 5,
+                             (const uint16_t[]){0, 0, 2, 3, 2}, (const uint16_t[]){0, 0, 0, 0, 0}};
+    if (l.kind == MERGED) {
+        listed(l, t, (const uint16_t[]){0, 2, 0, 3, 2, 3}, 3, (const uint16_t[]){2, 0, 2, 2, 0});
+    } else {
+        listed(l, t, (const uint16_t[]){0, 2, 0, 3, 0, 4, 1, 2, 1, 3, 1, 4, 2, 3, 3, 4}, 8,
+               (const uint16_t[]){3, 3, 3, 4, 3});
+    }
+}
+
+/* Each slice of a call one number too short, and then all of them empty: refused before anything in the text. */
+static void short_lists(struct lister l, const char *text, size_t text_len)
+{
+    struct lent lent = enough;
+    lent.pairs--;
+    list_refused(l, text, text_len, lent, NORBELATH_SHORT_SLICE, 0);
+    lent = enough;
+    lent.counts--;
+    list_refused(l, text, text_len, lent, NORBELATH_SHORT_SLICE, 0);
+    lent = enough;
+    lent.firsts--;
+    if (l.has_firsts) {
+        list_refused(l, text, text_len, lent, NORBELATH_SHORT_SLICE, 0);
+    }
+    lent = enough;
+    lent.islands--;
+    if (l.has_islands) {
+        list_refused(l, text, text_len, lent, NORBELATH_SHORT_SLICE, 0);
+    }
+    list_refused(l, text, text_len, (struct lent){0, 0, 0, 0}, NORBELATH_SHORT_SLICE, 0);
+}
+
+static void refused_lists(struct lister l)
+{
+    list_refused(l, "(1,2);(1,3);", 12, enough, NORBELATH_LABELS_DIFFER, 11);
+    list_refused(l, "(1,2", 4, enough, NORBELATH_WRONG_BYTE, 4);
+    short_lists(l, "(1,2);(1,2);", 12);
+    short_lists(l, "(1,2", 4);
+    short_lists(l, "", 0);
 }
 
 /* Three trees that are one move from each other; an interchange joins only the first two. */
-static void moves_and_interchanges(void)
+static void moves_and_interchanges(struct lister l)
 {
-    const char *text = "(((1,2),3),4);((1,2),(3,4));(((1,4),2),3);";
-    listed(graph, text, (const uint16_t[]){0, 1, 0, 2, 1, 2}, 3, (const uint16_t[]){2, 2, 2}, 3);
-    listed(interchanges, text, (const uint16_t[]){0, 1}, 1, (const uint16_t[]){1, 1, 0}, 3);
+    const uint16_t positions[] = {0, 1, 2}, zeros[] = {0, 0, 0};
+    const struct sample t = {"(((1,2),3),4);((1,2),(3,4));(((1,4),2),3);", 3, positions, zeros};
+    if (l.kind == INTERCHANGES) {
+        listed(l, t, (const uint16_t[]){0, 1}, 1, (const uint16_t[]){1, 1, 0});
+    } else {
+        listed(l, t, (const uint16_t[]){0, 1, 0, 2, 1, 2}, 3, (const uint16_t[]){2, 2, 2});
+    }
 }
 
-static void islands_listed(const char *text, const uint16_t *expected, size_t number_of_pairs,
-                           const uint16_t *neighbours, const uint16_t *numbers, size_t number_of_trees)
+/* Several islands that are mixed: two copies alone, two neighbours, and a chain of three with a copy of its end. */
+static void mixed(struct lister l)
 {
-    listed(islands, text, expected, number_of_pairs, neighbours, number_of_trees);
-    numbered(text, numbers, number_of_trees);
+    const struct sample t = {"((((3,4),2),1),5);((((1,2),5),4),3);((((3,4),5),1),2);((((1,2),3),4),5);"
+                             "((((2,5),1),4),3);((((3,4),2),1),5);((((2,3),4),5),1);(5,(4,(3,(2,1))));",
+                             8, (const uint16_t[]){0, 1, 2, 3, 4, 0, 6, 3},
+                             (const uint16_t[]){0, 1, 2, 2, 1, 0, 2, 2}};
+    if (l.kind == INTERCHANGES) {
+        listed(l, t, (const uint16_t[]){1, 4}, 1, (const uint16_t[]){0, 1, 0, 0, 1, 0, 0, 0});
+    } else if (l.kind == MERGED) {
+        listed(l, t, (const uint16_t[]){1, 4, 2, 6, 3, 6}, 3, (const uint16_t[]){0, 1, 1, 1, 1, 0, 2, 0});
+    } else {
+        listed(l, t, (const uint16_t[]){1, 4, 2, 6, 3, 6, 6, 7}, 4, (const uint16_t[]){0, 1, 1, 1, 1, 0, 3, 1});
+    }
 }
 
-/*
- * No island, one, and several that are mixed: two copies alone, two neighbours and a chain of three. Only pairs with
- * other trees put copies in one island.
- */
-static void islands_of_trees(void)
+/* 159 copies, and behind them another tree in as many bytes, which is linked with them or not. */
+static void full_of_copies(struct lister l, const char *copy, const char *other, int linked)
 {
-    const char *one = "((2,1),3);\n(3,(2,1));\n(1,(2,3));\n((1,3),2);\n";
-    const char *middle_last = "(((1,2),3),4);(((3,4),1),2);((1,2),(3,4));";
-    const char *mixed = "((((3,4),2),1),5);((((1,2),5),4),3);((((3,4),5),1),2);((((1,2),3),4),5);"
-                        "((((2,5),1),4),3);((((3,4),2),1),5);((((2,3),4),5),1);";
-    const uint16_t zeros[] = {0, 0, 0, 0};
-    islands_listed("", zeros, 0, zeros, zeros, 0);
-    islands_listed(" 7 ;", zeros, 0, zeros, zeros, 1);
-    islands_listed("(1,2); (2,1);", zeros, 0, zeros, (const uint16_t[]){0, 1}, 2);
-    islands_listed(one, (const uint16_t[]){0, 2, 0, 3, 1, 2, 1, 3, 2, 3}, 5, (const uint16_t[]){2, 2, 3, 3}, zeros, 4);
-    islands_listed(middle_last, (const uint16_t[]){0, 2, 1, 2}, 2, (const uint16_t[]){1, 1, 2}, zeros, 3);
-    islands_listed(mixed, (const uint16_t[]){1, 4, 2, 6, 3, 6}, 3, (const uint16_t[]){0, 1, 1, 1, 1, 0, 2},
-                   (const uint16_t[]){0, 1, 2, 2, 1, 5, 2}, 7);
+    static char text[NORBELATH_MAX_TREES * 14 + 1];
+    const size_t size = strlen(copy);
+    const uint16_t last = NORBELATH_MAX_TREES - 1;
+    const uint16_t number_of_pairs = !linked ? 0 : l.kind == MERGED ? 1 : last;
+    uint16_t firsts[NORBELATH_MAX_TREES] = {0}, islands[NORBELATH_MAX_TREES] = {0};
+    uint16_t expected[2 * NORBELATH_MAX_TREES], neighbours[NORBELATH_MAX_TREES] = {0};
+    for (uint16_t i = 0; i < last; i++) {
+        memcpy(text + i * size, copy, size);
+    }
+    memcpy(text + last * size, other, size + 1);
+    for (uint16_t i = 0; i < number_of_pairs; i++) {
+        expected[2 * i] = i;
+        expected[2 * i + 1] = last;
+        neighbours[i] = 1;
+    }
+    neighbours[last] = number_of_pairs;
+    firsts[last] = last;
+    islands[last] = linked ? 0 : last;
+    listed(l, (struct sample){text, NORBELATH_MAX_TREES, firsts, islands}, expected, number_of_pairs, neighbours);
 }
 
-/* Too short a slice for the islands is refused before anything in the text. */
-static void islands_refused(void)
+/* Any choice but 0 keeps copies apart. */
+static void every_choice(void)
 {
-    const size_t numbers = NORBELATH_GRAPH_PAIRS, trees = NORBELATH_GRAPH_COUNTS;
-    list_refused(short_islands, "(1,2);", 6, numbers, trees, NORBELATH_SHORT_SLICE, 0);
-    list_refused(short_islands, "", 0, numbers, trees, NORBELATH_SHORT_SLICE, 0);
-    list_refused(short_islands, "(1,2", 4, numbers, trees, NORBELATH_SHORT_SLICE, 0);
-    list_refused(short_islands, "(1,2);", 6, numbers - 1, trees - 1, NORBELATH_SHORT_SLICE, 0);
-    list_refused(islands, "(1,2", 4, numbers, trees, NORBELATH_WRONG_BYTE, 4);
+    const char *text = "(1,(2,3)); ((1,2),3); ((3,2),1);";
+    for (unsigned choice = 0; choice <= UINT8_MAX; choice++) {
+        struct reply r = {99, 99, 99};
+        r.result = call_choosing((const uint8_t *)text, strlen(text), (uint8_t)choice, enough, &r.first, &r.second);
+        check(same(r, NORBELATH_ACCEPTED, 3, choice == NORBELATH_MERGE_COPIES ? 1 : 2), "graph choosing", text,
+              "another number of pairs was expected");
+    }
+}
+
+static void lists(void)
+{
+    for (size_t i = 0; i < LISTERS; i++) {
+        no_pairs(listers[i]);
+        copies(listers[i]);
+        refused_lists(listers[i]);
+        moves_and_interchanges(listers[i]);
+        mixed(listers[i]);
+        full_of_copies(listers[i], "((1,2),3);", "((1,3),2);", 1);
+        full_of_copies(listers[i], "(((1,2),3),4);", "(((3,4),1),2);", 0);
+    }
 }
 
 /* What the pair lister prints, of a table and of a text that is refused; line 7 is the only refusal. */
@@ -359,31 +488,9 @@ static void sheets(void)
 /* 160 copies in so many bytes, and one copy behind them. */
 static void list_limits(struct lister l, const char *text, size_t full, size_t size)
 {
-    struct reply r = list(l, text, full, NORBELATH_GRAPH_PAIRS, NORBELATH_GRAPH_COUNTS);
+    struct reply r = list(l, text, full, enough);
     check(same(r, NORBELATH_ACCEPTED, NORBELATH_MAX_TREES, 0), l.name, text, "160 trees were expected");
-    list_refused(l, text, full + size, NORBELATH_GRAPH_PAIRS, NORBELATH_GRAPH_COUNTS, NORBELATH_TOO_MANY_TREES, full);
-}
-
-/* 160 trees that are one island, by the last of them, and 160 islands of one tree. */
-static void full_islands(void)
-{
-    static char text[NORBELATH_MAX_TREES * 10 + 1];
-    uint16_t expected[NORBELATH_MAX_TREES] = {0};
-    for (size_t i = 0; i < NORBELATH_MAX_TREES; i++) {
-        memcpy(text + i * 10, i + 1 < NORBELATH_MAX_TREES ? "((1,2),3);" : "((1,3),2);", 10);
-    }
-    struct reply r = list(islands, text, strlen(text), NORBELATH_GRAPH_PAIRS, NORBELATH_GRAPH_COUNTS);
-    check(same(r, NORBELATH_ACCEPTED, NORBELATH_MAX_TREES, NORBELATH_MAX_TREES - 1), "islands", text,
-          "159 pairs were expected");
-    numbered(text, expected, NORBELATH_MAX_TREES);
-
-    memcpy(text + (NORBELATH_MAX_TREES - 1) * 10, "((1,2),3);", 10);
-    for (uint16_t i = 0; i < NORBELATH_MAX_TREES; i++) {
-        expected[i] = i;
-    }
-    r = list(islands, text, strlen(text), NORBELATH_GRAPH_PAIRS, NORBELATH_GRAPH_COUNTS);
-    check(same(r, NORBELATH_ACCEPTED, NORBELATH_MAX_TREES, 0), "islands", text, "no pairs were expected");
-    numbered(text, expected, NORBELATH_MAX_TREES);
+    list_refused(l, text, full + size, enough, NORBELATH_TOO_MANY_TREES, full);
 }
 
 /* 160 trees are accepted and a 161st is refused; so is a text of one byte too many, whatever it holds. */
@@ -398,21 +505,19 @@ static void limits(void)
     struct reply r = table(text, full, NORBELATH_TABLE_TEXTS, NORBELATH_TABLE_ENDS);
     check(same(r, NORBELATH_ACCEPTED, full, NORBELATH_MAX_TREES), "table", text, "160 trees were expected");
     table_refused(text, full + size, NORBELATH_TABLE_TEXTS, NORBELATH_TABLE_ENDS, NORBELATH_TOO_MANY_TREES, full);
-    list_limits(graph, text, full, size);
-    list_limits(interchanges, text, full, size);
-    list_limits(islands, text, full, size);
+    for (size_t i = 0; i < LISTERS; i++) {
+        list_limits(listers[i], text, full, size);
+    }
     sheet(text, full + size, NORBELATH_SHEET_OUT, "refused 6 at 960\n");
 
     memset(text, ' ', sizeof text);
     r = table(text, NORBELATH_MAX_TEXT, NORBELATH_TABLE_TEXTS, NORBELATH_TABLE_ENDS);
     check(same(r, NORBELATH_ACCEPTED, 0, 0), "table", "blanks", "no trees were expected");
     table_refused(text, sizeof text, NORBELATH_TABLE_TEXTS, NORBELATH_TABLE_ENDS, NORBELATH_LONG_TEXT, 0);
-    list_refused(graph, text, sizeof text, NORBELATH_GRAPH_PAIRS, NORBELATH_GRAPH_COUNTS, NORBELATH_LONG_TEXT, 0);
-    list_refused(interchanges, text, sizeof text, NORBELATH_GRAPH_PAIRS, NORBELATH_GRAPH_COUNTS,
-                 NORBELATH_LONG_TEXT, 0);
-    list_refused(islands, text, sizeof text, NORBELATH_GRAPH_PAIRS, NORBELATH_GRAPH_COUNTS, NORBELATH_LONG_TEXT, 0);
-    list_refused(short_islands, text, sizeof text, NORBELATH_GRAPH_PAIRS, NORBELATH_GRAPH_COUNTS,
-                 NORBELATH_SHORT_SLICE, 0);
+    for (size_t i = 0; i < LISTERS; i++) {
+        list_refused(listers[i], text, sizeof text, enough, NORBELATH_LONG_TEXT, 0);
+        short_lists(listers[i], text, sizeof text);
+    }
     sheet(text, NORBELATH_MAX_TEXT, NORBELATH_SHEET_OUT, "trees 0 pairs 0\n");
     sheet(text, sizeof text, NORBELATH_SHEET_OUT, "refused 8 at 0\n");
     sheet(text, sizeof text, NORBELATH_SHEET_OUT - 1, NULL);
@@ -425,15 +530,10 @@ int main(void)
     cuts();
     pair_answers();
     tables();
-    lists(graph);
-    lists(interchanges);
-    lists(islands);
-    moves_and_interchanges();
-    islands_of_trees();
-    islands_refused();
+    lists();
+    every_choice();
     sheets();
     limits();
-    full_islands();
     printf("C: %d checks, %d failed\n", checks, failures);
     return failures != 0;
 }

@@ -1,11 +1,12 @@
 #!/usr/bin/env python3
 """Compare a pair lister with reference.py on generated cases.
 
-    compare.py PROGRAM [--interchanges | --islands] [--seed S] [--count N]
+    compare.py PROGRAM [--interchanges | --graphs | --islands] [--seed S] [--count N]
 
 PROGRAM is the path of an executable that reads a table of trees from standard
 input and writes the sheet to standard output; with --interchanges it is the
 program of interchanges.c, and the sheet is that of the interchange call; with
+--graphs that of graphs.c, and the sheet is that of both graph calls; with
 --islands it is the program of islands, and the sheet has a line for each.  It
 is run once for each case of generate.py, and its output must be the reference's
 sheet, byte for byte.  A program that is ended by a signal, or runs longer than
@@ -142,6 +143,8 @@ def main(arguments):
     others = parser.add_mutually_exclusive_group()
     others.add_argument("--interchanges", action="store_const", dest="sheet", const=reference.interchange_sheet,
                         help="the program is that of interchanges.c")
+    others.add_argument("--graphs", action="store_const", dest="sheet", const=reference.graphs_sheet,
+                        help="the program is that of graphs.c")
     others.add_argument("--islands", action="store_const", dest="sheet", const=reference.island_sheet,
                         help="the program is that of islands")
     parser.set_defaults(sheet=reference.sheet)

@@ -10,9 +10,9 @@ position only, so a larger COUNT keeps the earlier cases.  A file name holds
 the position and the kind of the case: `00017-one-move-apart.txt`.
 
 The first cases are the fixed ones (the same for every seed): the samples of
-document 01, all trees of up to five leaves, the limits and their neighbours,
-and a text for each way a refusal can come about.  All others are drawn at
-random.
+document 01, all trees of up to five leaves, copies in different places, the
+limits and their neighbours, and a text for each way a refusal can come about.
+All others are drawn at random.
 
 Trees are nested tuples here: a leaf is its label, a fork is (first, second).
 A node is named by its path from the root, a tuple of 0 and 1.  Nothing is
@@ -20,6 +20,7 @@ taken over from reference.py, so that moves made here also test the moves
 listed there.
 """
 
+import itertools
 import os
 import random
 import sys
@@ -234,6 +235,11 @@ def swapped(rng, tree):
     return (first, second) if rng.random() < 0.5 else (second, first)
 
 
+def mirrored(tree):
+    """The same topology with children swapped at every fork."""
+    return tree if is_leaf(tree) else (mirrored(tree[1]), mirrored(tree[0]))
+
+
 def random_labels(rng, size):
     """A label set of this size: consecutive, or scattered over 1 to 64."""
     way = rng.randrange(4)
@@ -341,6 +347,27 @@ def copies_table(rng):
     return trees
 
 
+def repeats_table(rng):
+    """Trees made by changing moves from earlier ones, or unrelated, and copies
+    of any of them.  The copies are mixed with the others, next to each other,
+    or behind all."""
+    labels = random_labels(rng, rng.randint(3, 8))
+    trees = [random_tree(rng, labels)]
+    for _ in range(rng.randint(1, 5)):
+        if rng.random() < 0.7:
+            trees.append(changing_move(rng, rng.choice(trees)))
+        else:
+            trees.append(random_tree(rng, labels))
+    positions = list(range(len(trees)))
+    positions += rng.choices(positions, k=rng.randint(1, 8))
+    way = rng.randrange(4)
+    if way == 0:
+        positions.sort()
+    elif way > 1:
+        rng.shuffle(positions)
+    return [swapped(rng, trees[position]) for position in positions]
+
+
 def one_move_table(rng):
     """Two trees exactly one move apart."""
     tree = random_tree(rng, random_labels(rng, rng.randint(3, 8)))
@@ -412,16 +439,17 @@ def grown_apart(rng, labels, size, near):
     """A group of this size, whose trees have none of the `near` topologies.
 
     Each tree but the first is a move from the one before or from any earlier
-    one, or now and then a copy.
+    one, or a copy of it.
     """
     from_last = rng.random() < 0.5
+    copying = rng.choice((0.1, 0.4, 0.8))
     group = []
     while len(group) < size:
         if not group:
             tree = random_tree(rng, labels)
         else:
             tree = group[-1] if from_last else rng.choice(group)
-            if rng.random() < 0.9:
+            if rng.random() >= copying:
                 tree = random_move(rng, tree)
         if shape(tree) not in near:
             group.append(swapped(rng, tree))
@@ -442,7 +470,7 @@ def crowded_table(rng):
 def usual_table(rng):
     """Any table of the small kinds that holds at least one tree."""
     while True:
-        trees = rng.choice((random_table, chain_table, copies_table))(rng)
+        trees = rng.choice((random_table, chain_table, copies_table, repeats_table))(rng)
         if trees:
             return trees
 
@@ -628,6 +656,7 @@ KINDS = (
     ("random-table", 18, accepted(random_table)),
     ("chain", 20, accepted(chain_table)),
     ("copies", 8, accepted(copies_table)),
+    ("repeats", 8, accepted(repeats_table)),
     ("one-move-apart", 8, accepted(one_move_table)),
     ("two-moves-apart", 6, accepted(two_moves_table)),
     ("large", 1, accepted(large_table)),
@@ -777,10 +806,27 @@ def all_small_trees_cases():
     return [("all-topologies", plain(all_trees(labels))) for labels in label_sets]
 
 
+def copy_cases():
+    """Copies, mirrored or not, in every place among a few other trees."""
+    first, middle, last = (((1, 2), 3), 4), ((1, 2), (3, 4)), (((3, 4), 1), 2)
+    tables = [[1] * 2, [(1, 2)] * 3, [(1, 2), (2, 1)], [first, mirrored(first), first]]
+    # The first and the last are one move from the middle, not from each other.
+    for trees in ((first, middle), (first, last)):
+        for copied in trees:
+            tables += itertools.permutations(trees + (mirrored(copied),))
+    tables += itertools.permutations((first, middle, last, mirrored(last)))
+    # 160 trees: one topology but for one tree; all of five leaves, and copies.
+    for order in (1, -1):
+        tables.append(([first] * 159 + [middle])[::order])
+        five_leaves = all_trees(ALL_LABELS[:5])
+        tables.append((five_leaves + list(map(mirrored, five_leaves[:55])))[::order])
+    return [("copy", plain(trees)) for trees in tables]
+
+
 def fixed_cases():
     """All fixed cases as (kind, text)."""
     return (
-        sample_cases() + all_small_trees_cases() + byte_cases() + label_cases()
+        sample_cases() + all_small_trees_cases() + copy_cases() + byte_cases() + label_cases()
         + label_set_cases() + depth_cases() + count_cases() + length_cases()
     )
 

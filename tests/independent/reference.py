@@ -1,6 +1,6 @@
 #!/usr/bin/env python3
 """Reference program for the pair lister, written from document 01 and, for
-interchanges and islands, tickets 2 and 5 of document 02.
+interchanges, islands and merged copies, tickets 2, 5 and 6 of document 02.
 
     reference.py [--islands]
 
@@ -12,13 +12,15 @@ program of islands.  As a module it offers the calls
     cut(text, number)     the forest text of that cut (bytes)
     pair(text0, text1)    True or False: one move apart
     table(text)           Table(texts, ends)
-    graph(text)           Graph(pairs, counts)
-    interchanges(text)    the same for one interchange in place of one move
-    islands(text)         Islands(pairs, counts, numbers)
+    graph(text)           Graph(pairs, counts, firsts), copies merged
+    graph_choosing(text, merge)
+                          the same, with copies kept apart where merge is False
+    interchanges(text)    Interchanges(pairs, counts), copies kept apart
+    islands(text)         Islands(pairs, counts, firsts, numbers), copies merged
 
 and `sheet(text)`, the bytes the command prints, with `interchange_sheet(text)`
-for those of interchanges.c and `island_sheet(text)` for those of the program
-of islands.  Texts are bytes.  A call that refuses returns a
+for those of interchanges.c, `graphs_sheet(text)` for those of graphs.c and
+`island_sheet(text)` for those of the program of islands.  Texts are bytes.  A call that refuses returns a
 Refusal(number, text, place) instead; it is a tuple and equals the plain tuple
 of the same three numbers.
 
@@ -32,9 +34,16 @@ anywhere, so Lemma 2.2 of document 001 is not used.  Interchanges are gone
 through in the same way: every node that is neither the root nor a child of the
 root is taken off and regrafted above its aunt.
 
-How islands are found.  From a position not yet in an island, a breadth-first
-search goes along the listed pairs and gathers every position that it comes to;
-the smallest of them is the island's number.
+How copies are merged.  Positions of equal topology are copies, and the smallest
+of them is the first.  The moves from each topology that occurs are gone through
+once, and a result that occurs too makes a pair of the two first positions.
+With copies kept apart, the trees of every two positions are looked at instead.
+The pair lister's sheet and the interchange graph keep copies apart.
+
+How islands are found.  From a first position not yet in an island, a
+breadth-first search goes along the listed pairs and gathers every position that
+it comes to; the smallest of them is the island's number.  A copy has the number
+of its first.
 
 The values here are returned, not written into lent memory, so refusal 7 (a
 lent slice too short) does not arise.
@@ -83,17 +92,27 @@ class Table(NamedTuple):
 
 
 class Graph(NamedTuple):
-    """Pairs (i, j) with i < j in order of i, then j; neighbours per tree."""
+    """Pairs (i, j) with i < j in order of i, then j; for each position the
+    number of pairs it stands in, and the first position of its topology."""
+
+    pairs: list
+    counts: list
+    firsts: list
+
+
+class Interchanges(NamedTuple):
+    """Pairs and counts as in a Graph with copies kept apart."""
 
     pairs: list
     counts: list
 
 
 class Islands(NamedTuple):
-    """The graph's pairs and counts, and the island's number per tree."""
+    """The merged Graph, and for each position the number of its island."""
 
     pairs: list
     counts: list
+    firsts: list
     numbers: list
 
 
@@ -110,10 +129,10 @@ def returns_refusal(call):
     """Make a call return its Refusal where its body raises Refused."""
 
     @functools.wraps(call)
-    def wrapper(*arguments):
+    def wrapper(*arguments, **named):
         """Run the call; a refusal becomes its value."""
         try:
-            return call(*arguments)
+            return call(*arguments, **named)
         except Refused as refused:
             return refused.refusal
 
@@ -417,21 +436,30 @@ def table(text):
 
 @returns_refusal
 def graph(text):
-    """The listed pairs of a table and the neighbour count of each tree."""
-    return graph_of(read_table(text), reached)
+    """The graph of a table without a stated choice: copies are merged."""
+    return merged_graph(read_table(text))
+
+
+@returns_refusal
+def graph_choosing(text, merge):
+    """The graph of a table, with copies merged or kept apart as stated."""
+    trees = read_table(text)
+    return merged_graph(trees) if merge else graph_apart(trees)
 
 
 @returns_refusal
 def interchanges(text):
-    """The same for one interchange in place of one move."""
-    return graph_of(read_table(text), reached_by_interchange)
+    """The pairs of trees one interchange apart, and the counts of these."""
+    trees = read_table(text)
+    pairs = pairs_of_positions(trees, reached_by_interchange)
+    return Interchanges(pairs, neighbour_counts(pairs, len(trees)))
 
 
 @returns_refusal
 def islands(text):
-    """The graph of a table and the number of each tree's island."""
-    graph_ = graph_of(read_table(text), reached)
-    return Islands(graph_.pairs, graph_.counts, island_numbers(graph_))
+    """The merged graph of a table and the number of each tree's island."""
+    graph_ = merged_graph(read_table(text))
+    return Islands(*graph_, island_numbers(graph_))
 
 
 def table_of(trees):
@@ -445,50 +473,87 @@ def table_of(trees):
     return Table(texts, ends)
 
 
-def graph_of(trees, reach):
-    """The Graph of trees already read.
+def merged_graph(trees):
+    """The Graph of trees already read, copies merged."""
+    pairs = pairs_of_topologies(trees)
+    return Graph(pairs, neighbour_counts(pairs, len(trees)), first_positions(trees))
+
+
+def graph_apart(trees):
+    """The Graph of trees already read, copies kept apart."""
+    pairs = pairs_of_positions(trees, reached)
+    return Graph(pairs, neighbour_counts(pairs, len(trees)), first_positions(trees))
+
+
+def pairs_of_topologies(trees):
+    """The pairs of first positions: one for every two topologies that occur
+    and are one move apart."""
+    first_of = first_by_topology(trees)
+    return sorted(
+        (i, first_of[made])
+        for i in first_of.values()
+        for made in reached(trees[i])
+        if made in first_of and i < first_of[made]
+    )
+
+
+def pairs_of_positions(trees, reach):
+    """The pairs of all positions, copies kept apart.
 
     `reach` gives the set of topologies that one step makes from a tree.
     """
-    kinds = number_topologies(trees)
-    reached_from = {}  # by kind, so that copies are worked out once
+    firsts = first_positions(trees)
+    reached_from = {}  # by first position, so that copies are worked out once
     pairs = []
-    counts = [0] * len(trees)
-    for i, first in enumerate(trees):
-        for j in range(i + 1, len(trees)):
-            if kinds[i] == kinds[j]:
-                continue
-            if kinds[i] not in reached_from:
-                reached_from[kinds[i]] = reach(first)
-            if trees[j].clades in reached_from[kinds[i]]:
-                pairs.append((i, j))
-                counts[i] += 1
-                counts[j] += 1
-    return Graph(pairs, counts)
+    for i, j in itertools.combinations(range(len(trees)), 2):
+        if firsts[i] == firsts[j]:
+            continue
+        if firsts[i] not in reached_from:
+            reached_from[firsts[i]] = reach(trees[i])
+        if trees[j].clades in reached_from[firsts[i]]:
+            pairs.append((i, j))
+    return pairs
 
 
-def number_topologies(trees):
-    """A number for each tree; the same number exactly for equal topologies."""
-    numbers = {}
-    return [numbers.setdefault(tree.clades, len(numbers)) for tree in trees]
+def neighbour_counts(pairs, length):
+    """For each position below `length` the number of pairs it stands in."""
+    counts = [0] * length
+    for i, j in pairs:
+        counts[i] += 1
+        counts[j] += 1
+    return counts
+
+
+def first_by_topology(trees):
+    """The first position of each topology that occurs, in a dictionary."""
+    first_of = {}
+    for position, tree in enumerate(trees):
+        first_of.setdefault(tree.clades, position)
+    return first_of
+
+
+def first_positions(trees):
+    """For each tree the first position of its topology."""
+    first_of = first_by_topology(trees)
+    return [first_of[tree.clades] for tree in trees]
 
 
 def island_numbers(graph_):
-    """For each position the smallest one that a chain of pairs joins it to.
+    """For each position the smallest one that a chain of pairs joins its first
+    to.
 
-    Every position is joined to itself, by the chain of no pairs.
+    Every first position is joined to itself, by the chain of no pairs.
     """
     neighbours = [[] for _ in graph_.counts]
     for i, j in graph_.pairs:
         neighbours[i].append(j)
         neighbours[j].append(i)
-    numbers = [None] * len(neighbours)
-    for start, number in enumerate(numbers):
-        if number is None:
-            island = joined_to(start, neighbours)
-            for position in island:
-                numbers[position] = min(island)
-    return numbers
+    numbers = {}  # by first position
+    for first in graph_.firsts:
+        if first not in numbers:
+            island = joined_to(first, neighbours)
+            numbers.update(dict.fromkeys(island, min(island)))
+    return [numbers[first] for first in graph_.firsts]
 
 
 def joined_to(start, neighbours):
@@ -510,12 +575,13 @@ def joined_to(start, neighbours):
 
 
 def sheet(text):
-    """What the pair lister prints for this standard input."""
+    """What the pair lister prints for this standard input; it asks for copies
+    kept apart."""
     try:
         trees = read_table(text)
     except Refused as refused:
         return refusal_line(refused.refusal)
-    return sheet_of(table_of(trees), graph_of(trees, reached))
+    return sheet_of(table_of(trees), graph_apart(trees))
 
 
 def interchange_sheet(text):
@@ -524,6 +590,19 @@ def interchange_sheet(text):
     if isinstance(answer, Refusal):
         return refusal_line(answer)
     return lines_of([b"tree %d neighbours %d" % item for item in enumerate(answer.counts)], answer.pairs)
+
+
+def graphs_sheet(text):
+    """What graphs.c prints for this standard input."""
+    return b"".join(graph_lines(graph_choosing(text, merge)) for merge in (True, False))
+
+
+def graph_lines(answer):
+    """The lines of one graph, with the first position of each tree."""
+    if isinstance(answer, Refusal):
+        return refusal_line(answer)
+    numbers = zip(itertools.count(), answer.counts, answer.firsts)
+    return lines_of([b"tree %d neighbours %d first %d" % item for item in numbers], answer.pairs)
 
 
 def island_sheet(text):

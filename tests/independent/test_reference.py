@@ -5,6 +5,7 @@ and properties that hold for all trees, tried on all small and on random trees.
     python3 test_reference.py
 """
 
+import collections
 import itertools
 import os
 import random
@@ -15,7 +16,7 @@ import unittest
 import generate
 import reference
 from reference import (
-    cut, form, graph, interchange_sheet, interchanges, island_sheet, islands, pair, sheet, table,
+    cut, form, graph, graph_choosing, interchange_sheet, interchanges, island_sheet, islands, pair, sheet, table,
 )
 
 HERE = os.path.dirname(os.path.abspath(__file__))
@@ -50,6 +51,11 @@ def text_of(nested):
     return generate.plain([nested])
 
 
+def kept_apart(text):
+    """The graph with copies kept apart."""
+    return graph_choosing(text, merge=False)
+
+
 def random_pairs(seed, count, sizes):
     """Random pairs of nested tuples on one label set: the second is 0, 1 or 2
     random moves away from the first, or unrelated."""
@@ -65,6 +71,26 @@ def random_pairs(seed, count, sizes):
             for _ in range(moves):
                 second = generate.random_move(rng, second)
         yield first, generate.swapped(rng, second)
+
+
+def texts_with_copies(seed, count):
+    """Tables of the kinds that have copies, in any layout."""
+    rng = random.Random(seed)
+    for _ in range(count):
+        make = rng.choice((generate.usual_table, generate.repeats_table, generate.island_table))
+        yield generate.written(rng, make(rng))
+
+
+def trees_apart(seed, count):
+    """So many nested tuples, no two of them equal or one move apart."""
+    rng = random.Random(seed)
+    trees, near = [], set()
+    while len(trees) < count:
+        tree = generate.random_tree(rng, range(1, 11))
+        if generate.shape(tree) not in near:
+            trees.append(tree)
+            near.update(map(generate.shape, [tree] + generate.all_moves(tree)))
+    return trees
 
 
 # Forests, worked out from clade sets alone.  They are used in this file only.
@@ -142,15 +168,17 @@ class Samples(unittest.TestCase):
     def test_empty_table(self):
         """The empty text is a table of no trees."""
         self.assertEqual(table(b""), ([], []))
-        self.assertEqual(graph(b""), ([], []))
+        self.assertEqual(graph(b""), ([], [], []))
+        self.assertEqual(kept_apart(b""), ([], [], []))
         self.assertEqual(interchanges(b""), ([], []))
-        self.assertEqual(islands(b""), ([], [], []))
+        self.assertEqual(islands(b""), ([], [], [], []))
         self.assertEqual(sheet(b""), b"trees 0 pairs 0\n")
 
     def test_other_labels(self):
         """A later tree on other labels."""
         self.assertEqual(table(b"(1,2);(1,3);"), (5, 0, 11))
         self.assertEqual(graph(b"(1,2);(1,3);"), (5, 0, 11))
+        self.assertEqual(kept_apart(b"(1,2);(1,3);"), (5, 0, 11))
         self.assertEqual(interchanges(b"(1,2);(1,3);"), (5, 0, 11))
         self.assertEqual(islands(b"(1,2);(1,3);"), (5, 0, 11))
 
@@ -168,7 +196,8 @@ class Samples(unittest.TestCase):
         """One pair, although three forests are shared."""
         first, second = b"(((1,2),3),4);", b"((1,2),(3,4));"
         self.assertIs(pair(first, second), True)
-        self.assertEqual(graph(first + second), ([(0, 1)], [1, 1]))
+        self.assertEqual(graph(first + second), ([(0, 1)], [1, 1], [0, 1]))
+        self.assertEqual(kept_apart(first + second), ([(0, 1)], [1, 1], [0, 1]))
         shared = forests(tree_of(first).clades) & forests(tree_of(second).clades)
         self.assertEqual(len(shared), 3)
 
@@ -189,6 +218,7 @@ class Samples(unittest.TestCase):
         self.assertEqual(len(table(b"(1,2);" * 160).texts), 160)
         self.assertEqual(table(b"(1,2);" * 161), (6, 0, 960))
         self.assertEqual(graph(b"(1,2);" * 161), (6, 0, 960))
+        self.assertEqual(kept_apart(b"(1,2);" * 161), (6, 0, 960))
         self.assertEqual(interchanges(b"(1,2);" * 161), (6, 0, 960))
         self.assertEqual(islands(b"(1,2);" * 161), (6, 0, 960))
 
@@ -352,7 +382,8 @@ class Interchanges(unittest.TestCase):
     def test_copies(self):
         """Copies are kept apart and are no pair of their own."""
         self.assertEqual(interchanges(b"((1,2),3);(3,(2,1));"), ([], [0, 0]))
-        self.assertEqual(interchanges(SAMPLE_INPUT), graph(SAMPLE_INPUT))
+        self.assertEqual(interchanges(SAMPLE_INPUT), kept_apart(SAMPLE_INPUT)[:2])
+        self.assertEqual(len(interchanges(SAMPLE_INPUT).pairs), 5)
 
     def test_sheet(self):
         """The lister's sheet without the unlinked numbers and the texts."""
@@ -367,6 +398,97 @@ pair 1 2
         self.assertEqual(interchange_sheet(b""), b"trees 0 pairs 0\n")
 
 
+class Copies(unittest.TestCase):
+    """Known cases of the graph with copies merged and with copies kept apart."""
+
+    def check(self, text, firsts, merged, apart):
+        """The table has these firsts, and these pairs and counts for each
+        choice; the call without a choice merges."""
+        self.assertEqual(graph(text), merged + (firsts,))
+        self.assertEqual(graph_choosing(text, merge=True), merged + (firsts,))
+        self.assertEqual(kept_apart(text), apart + (firsts,))
+
+    def test_graphs_sheet(self):
+        """Both graphs, one after the other; a refused text has its line twice."""
+        self.assertEqual(reference.graphs_sheet(b"((2,1),3);(3,(2,1));(1,(2,3));"), (
+            b"trees 3 pairs 1\ntree 0 neighbours 1 first 0\ntree 1 neighbours 0 first 0\n"
+            b"tree 2 neighbours 1 first 2\npair 0 2\n"
+            b"trees 3 pairs 2\ntree 0 neighbours 1 first 0\ntree 1 neighbours 1 first 0\n"
+            b"tree 2 neighbours 2 first 2\npair 0 2\npair 1 2\n"
+        ))
+        self.assertEqual(reference.graphs_sheet(b""), b"trees 0 pairs 0\n" * 2)
+        self.assertEqual(reference.graphs_sheet(b"(1,1);"), b"refused 3 at 3\n" * 2)
+
+    def test_sample(self):
+        """Document 01's table: tree 1 is a copy of tree 0."""
+        self.check(
+            SAMPLE_INPUT, [0, 0, 2, 3], ([(0, 2), (0, 3), (2, 3)], [2, 0, 2, 2]),
+            ([(0, 2), (0, 3), (1, 2), (1, 3), (2, 3)], [2, 2, 3, 3]))
+
+    def test_copies_only(self):
+        """One topology has no pairs."""
+        for tree in (b"7;", b"(1,2);", LEFT_COMB):
+            self.check(tree * 3, [0, 0, 0], ([], [0, 0, 0]), ([], [0, 0, 0]))
+
+    def test_no_copies(self):
+        """Without copies the choice changes nothing."""
+        text = b"(((1,2),3),4);((1,2),(3,4));(((3,4),1),2);"
+        answer = ([(0, 1), (1, 2)], [1, 2, 1])
+        self.check(text, [0, 1, 2], answer, answer)
+
+    def test_places_of_copies(self):
+        """A copy next to its first, or with their neighbour between them, or
+        behind the neighbour as its first is; and copies of both."""
+        one, copy, other = b"((1,2),3);", b"(3,(2,1));", b"((1,3),2);"
+        self.check(one + copy + other, [0, 0, 2], ([(0, 2)], [1, 0, 1]), ([(0, 2), (1, 2)], [1, 1, 2]))
+        self.check(one + other + copy, [0, 1, 0], ([(0, 1)], [1, 1, 0]), ([(0, 1), (1, 2)], [1, 2, 1]))
+        self.check(other + one + copy, [0, 1, 1], ([(0, 1)], [1, 1, 0]), ([(0, 1), (0, 2)], [2, 1, 1]))
+        self.check(
+            one + other + copy + other, [0, 1, 0, 1], ([(0, 1)], [1, 1, 0, 0]),
+            ([(0, 1), (0, 3), (1, 2), (2, 3)], [2, 2, 2, 2]))
+
+    def test_writing(self):
+        """A copy is one by its topology, however it is written."""
+        text = b"((10,2),(3,4));\n( (4, 3 ) ,(02,010));\n((2,3),(10,4));((4,3),(10,2));"
+        self.check(text, [0, 0, 2, 0], ([], [0] * 4), ([], [0] * 4))
+
+    def test_order_of_pairs(self):
+        """Pairs of first positions are ordered, with copies between them."""
+        trees = [b"((1,2),3);", b"((1,3),2);", b"(1,(2,3));"]
+        for order in itertools.permutations(trees):
+            text = order[0] + order[1] + order[0] + order[1] + order[2]
+            self.assertEqual(graph(text), ([(0, 1), (0, 4), (1, 4)], [2, 2, 0, 0, 2], [0, 1, 0, 1, 4]))
+
+    def test_full_tables(self):
+        """160 trees of three topologies, each a neighbour of the other two."""
+        text = b"((1,2),3);((1,3),2);(1,(2,3));" * 53 + b"((3,2),1);"
+        apart = kept_apart(text)
+        self.assertEqual(graph(text), (
+            [(0, 1), (0, 2), (1, 2)], [2, 2, 2] + [0] * 157, [0, 1, 2] * 53 + [2]))
+        self.assertEqual(len(apart.pairs), 53 * 53 + 2 * 53 * 54)
+        self.assertEqual(apart.counts, [107, 107, 106] * 53 + [106])
+        self.assertEqual(apart.firsts, graph(text).firsts)
+
+    def test_sheet(self):
+        """The lister's sheet has the pairs and counts of copies too."""
+        self.assertEqual(sheet(b"((1,2),3);((1,3),2);(3,(2,1));"), b"""\
+trees 3 pairs 2
+tree 0 neighbours 1 unlinked 0 ((1,2),3);
+tree 1 neighbours 2 unlinked 0 ((1,3),2);
+tree 2 neighbours 1 unlinked 0 ((1,2),3);
+pair 0 1
+pair 1 2
+""")
+
+    def test_refused(self):
+        """The same refusal, whatever the choice."""
+        for text in (b"(1,2,3);", b"(1,65);", b"(1,1);", OPEN_63 + b"(", b"1;2;", b"1;" * 161, b" " * 65536):
+            self.assertIsInstance(graph(text), reference.Refusal)
+            self.assertEqual(graph(text), table(text))
+            for merge in (False, True):
+                self.assertEqual(graph_choosing(text, merge), graph(text))
+
+
 class Islands(unittest.TestCase):
     """Known cases of islands."""
 
@@ -379,7 +501,7 @@ class Islands(unittest.TestCase):
 
     def test_sample(self):
         """Document 01's table is one island of 4."""
-        self.check(SAMPLE_INPUT, [(0, 2), (0, 3), (1, 2), (1, 3), (2, 3)], [0, 0, 0, 0], b"island 0 4\n")
+        self.check(SAMPLE_INPUT, [(0, 2), (0, 3), (2, 3)], [0, 0, 0, 0], b"island 0 4\n")
 
     def test_no_trees(self):
         """A table without trees has no line."""
@@ -424,19 +546,34 @@ class Islands(unittest.TestCase):
         self.assertEqual(island_sheet(b"".join(combs[:4] + combs[5:])), b"island 0 4\nisland 4 4\n")
 
     def test_copies(self):
-        """Copies are no pair; only pairs put them into one island."""
-        self.check(b"((1,2),3);(3,(2,1));((1,2),3);", [], [0, 1, 2], b"island 0 1\nisland 1 1\nisland 2 1\n")
-        self.check(b"((1,2),3);(3,(2,1));((1,3),2);", [(0, 2), (1, 2)], [0, 0, 0], b"island 0 3\n")
+        """A copy has the island of its first, with or without pairs."""
+        self.assertEqual(islands(b"(1,2);(1,2);(1,2);"), ([], [0, 0, 0], [0, 0, 0], [0, 0, 0]))
+        self.check(b"(1,2);(1,2);(1,2);", [], [0, 0, 0], b"island 0 3\n")
+        self.check(b"((1,2),3);(3,(2,1));((1,3),2);", [(0, 2)], [0, 0, 0], b"island 0 3\n")
+        self.check(b"((1,2),3);((1,3),2);(3,(2,1));", [(0, 1)], [0, 0, 0], b"island 0 3\n")
         # Two copies that stand alone, beside two neighbours.
         self.check(
             b"(((1,2),3),4);((1,(3,4)),2);(4,(3,(2,1)));(1,(2,(3,4)));",
-            [(1, 3)], [0, 1, 2, 1], b"island 0 1\nisland 1 2\nisland 2 1\n")
+            [(1, 3)], [0, 1, 0, 1], b"island 0 2\nisland 1 2\n")
+
+    def test_copy_of_a_later_tree(self):
+        """The number is the island's smallest position, which is not always
+        the first of the copy."""
+        alone, one, other = b"(((1,2),3),4);", b"((1,(3,4)),2);", b"(1,(2,(3,4)));"
+        self.check(
+            alone + one + other + other + alone, [(1, 2)], [0, 1, 1, 1, 0], b"island 0 2\nisland 1 3\n")
+        self.check(
+            one + alone + other + alone + other, [(0, 2)], [0, 1, 0, 1, 0], b"island 0 3\nisland 1 2\n")
 
     def test_full_tables(self):
-        """160 islands of one, and one of 160 that its last tree joins."""
-        self.assertEqual(islands(b"(1,2);" * 160).numbers, list(range(160)))
-        self.assertEqual(island_sheet(b"(1,2);" * 160), b"".join(b"island %d 1\n" % k for k in range(160)))
+        """One island of 160 copies, and one that its last tree joins; 160
+        islands of one."""
+        self.assertEqual(islands(b"(1,2);" * 160).numbers, [0] * 160)
+        self.assertEqual(island_sheet(b"(1,2);" * 160), b"island 0 160\n")
         self.assertEqual(island_sheet(b"((1,2),3);" * 159 + b"((1,3),2);"), b"island 0 160\n")
+        text = generate.plain(trees_apart(24, 160))
+        self.assertEqual(islands(text), ([], [0] * 160, list(range(160)), list(range(160))))
+        self.assertEqual(island_sheet(text), b"".join(b"island %d 1\n" % k for k in range(160)))
 
     def test_refused(self):
         """The lister's line, and nothing else."""
@@ -512,6 +649,19 @@ class AllSmallTrees(unittest.TestCase):
                 for second in trees:
                     changed = len(first.clades - second.clades)
                     self.assertEqual(second.clades in reached, changed == 1)
+
+    def test_copies_behind_all_topologies(self):
+        """Copies behind all others leave the merged pairs as they were."""
+        for trees in self.by_size.values():
+            texts = [reference.canonical_text(tree) for tree in trees]
+            alone = graph(b"".join(texts))
+            self.assertEqual(alone, kept_apart(b"".join(texts)))
+            self.assertEqual(alone.firsts, list(range(len(texts))))
+            copied = list(range(len(texts)))[:160 - len(texts)][::-1]
+            merged = graph(b"".join(texts + [texts[k] for k in copied]))
+            self.assertEqual(merged.pairs, alone.pairs)
+            self.assertEqual(merged.counts, alone.counts + [0] * len(copied))
+            self.assertEqual(merged.firsts, alone.firsts + copied)
 
     def test_results_are_trees(self):
         """Every topology that a move gives is one of the possible ones."""
@@ -610,12 +760,11 @@ class RandomTrees(unittest.TestCase):
             self.assertEqual(same_text, one.clades == other.clades)
 
     def test_tables(self):
-        """Ends, counts and order of pairs in random tables."""
+        """Ends, firsts, counts and order of pairs in random tables."""
         rng = random.Random(18)
         for _ in range(60):
             text = generate.written(rng, generate.usual_table(rng))
             texts, ends = table(text)
-            pairs, counts = graph(text)
             written = b"".join(texts)
             self.assertEqual(
                 [written[start:end] for start, end in zip([0] + ends, ends)], texts)
@@ -623,11 +772,87 @@ class RandomTrees(unittest.TestCase):
                 (i, j) for i, j in itertools.combinations(range(len(texts)), 2)
                 if pair(texts[i], texts[j])
             ]
-            self.assertEqual(pairs, expected)
-            self.assertEqual(sum(counts), 2 * len(pairs))
-            for i, count in enumerate(counts):
-                self.assertEqual(count, sum(i in one_pair for one_pair in pairs))
+            self.assertEqual(kept_apart(text).pairs, expected)
+            firsts = [texts.index(one) for one in texts]
+            self.assertEqual(graph(text).pairs, [(i, j) for i, j in expected if firsts[i] == i and firsts[j] == j])
+            for pairs, counts, given in (graph(text), kept_apart(text)):
+                self.assertEqual(given, firsts)
+                self.assertEqual(sum(counts), 2 * len(pairs))
+                for i, count in enumerate(counts):
+                    self.assertEqual(count, sum(i in one_pair for one_pair in pairs))
 
+    def test_merging(self):
+        """The two graphs tell the same: the merged one is the other between
+        first positions, and the other is the merged one copied out."""
+        smaller = 0
+        for text in texts_with_copies(25, 100):
+            merged, apart = graph(text), kept_apart(text)
+            firsts = merged.firsts
+            self.assertEqual(graph_choosing(text, merge=True), merged)
+            self.assertEqual(apart.firsts, firsts)
+            between_firsts = [(i, j) for i, j in apart.pairs if firsts[i] == i and firsts[j] == j]
+            self.assertEqual(merged.pairs, between_firsts)
+            copied_out = [
+                (i, j) for i, j in itertools.combinations(range(len(firsts)), 2)
+                if tuple(sorted((firsts[i], firsts[j]))) in merged.pairs
+            ]
+            self.assertEqual(apart.pairs, copied_out)
+            smaller += 0 < len(merged.pairs) < len(apart.pairs)
+        self.assertGreater(smaller, 50)
+
+    def test_firsts_and_counts_of_copies(self):
+        """A first position is the smallest of its topology; a copy is in no
+        merged pair, and kept apart it has the neighbours of its first."""
+        copies, with_neighbours = 0, 0
+        for text in texts_with_copies(26, 100):
+            texts, _ = table(text)
+            merged, apart = graph(text), kept_apart(text)
+            for position, first in enumerate(merged.firsts):
+                self.assertEqual(texts[first], texts[position])
+                self.assertNotIn(texts[first], texts[:first])
+                self.assertLessEqual(first, position)
+                self.assertEqual(apart.counts[position], apart.counts[first])
+                if first < position:
+                    self.assertEqual(merged.counts[position], 0)
+                    self.assertFalse(any(position in one_pair for one_pair in merged.pairs))
+                    copies += 1
+                    with_neighbours += apart.counts[position] > 0
+        self.assertGreater(with_neighbours, 200)
+        self.assertGreater(copies - with_neighbours, 30)
+
+    def test_neighbouring_topologies_once(self):
+        """Every two topologies that occur and are one move apart are one
+        merged pair, whichever of their copies are written first."""
+        rng = random.Random(27)
+        copied = 0
+        for _ in range(60):
+            texts, _ = table(generate.plain(generate.usual_table(rng)))
+            expected = [frozenset(two) for two in itertools.combinations(sorted(set(texts)), 2) if pair(*two)]
+            copied += any(texts.count(one) > 1 for two in expected for one in two)
+            for _ in range(2):
+                listed = [frozenset((texts[i], texts[j])) for i, j in graph(b"".join(texts)).pairs]
+                self.assertEqual(collections.Counter(listed), collections.Counter(expected))
+                rng.shuffle(texts)
+        self.assertGreater(copied, 30)
+
+    def test_sheets_keep_copies_apart(self):
+        """The lister's sheet has the pairs and counts of the pair call on
+        every two positions, so nothing of the merged graph."""
+        rng = random.Random(28)
+        for _ in range(40):
+            text = generate.written(rng, generate.repeats_table(rng))
+            texts, _ = table(text)
+            pairs = [
+                (i, j) for i, j in itertools.combinations(range(len(texts)), 2)
+                if pair(texts[i], texts[j])
+            ]
+            lines = [b"trees %d pairs %d" % (len(texts), len(pairs))]
+            for i, own in enumerate(texts):
+                neighbours = sum(i in one_pair for one_pair in pairs)
+                unlinked = len(texts) - texts.count(own) - neighbours
+                lines.append(b"tree %d neighbours %d unlinked %d %s" % (i, neighbours, unlinked, own))
+            lines += [b"pair %d %d" % one_pair for one_pair in pairs]
+            self.assertEqual(sheet(text).splitlines(), lines)
 
     def test_interchange_tables(self):
         """Pairs are those of each two trees, in either order, and some of the
@@ -643,7 +868,7 @@ class RandomTrees(unittest.TestCase):
                 self.assertEqual(interchanges(texts[i] + texts[j]).pairs, expected)
                 self.assertEqual(interchanges(texts[j] + texts[i]).pairs, expected)
             self.assertEqual(pairs, sorted(set(pairs)))
-            by_moves = graph(text).pairs
+            by_moves = kept_apart(text).pairs
             self.assertLessEqual(set(pairs), set(by_moves))
             fewer += 0 < len(pairs) < len(by_moves)
             for i, count in enumerate(counts):
@@ -651,27 +876,41 @@ class RandomTrees(unittest.TestCase):
         self.assertGreater(fewer, 10)
 
     def test_island_tables(self):
-        """Two positions have one number exactly when a chain joins them; the
-        number is the smallest of its island; sizes make up the table."""
-        rng = random.Random(22)
-        with_chains = 0
-        for _ in range(80):
-            trees = rng.choice((generate.usual_table, generate.island_table))(rng)
-            text = generate.written(rng, trees)
-            pairs, counts, numbers = islands(text)
-            self.assertEqual((pairs, counts), graph(text))
-            self.assertEqual(len(numbers), len(trees))
-            joined = joined_matrix(len(trees), set(pairs))
-            for i, row in enumerate(joined):
-                self.assertEqual([number == numbers[i] for number in numbers], row)
-                self.assertEqual(numbers[i], row.index(True))
-            with_chains += any(sum(row) > counts[i] + 1 for i, row in enumerate(joined))
+        """Two first positions have one number exactly when a chain joins them;
+        the number is the smallest of its island; a copy has the number of its
+        first; sizes make up the table."""
+        with_chains, copies_of_later = 0, 0
+        for text in texts_with_copies(22, 80):
+            pairs, counts, firsts, numbers = islands(text)
+            self.assertEqual((pairs, counts, firsts), graph(text))
+            self.assertEqual(len(numbers), len(firsts))
+            joined = joined_matrix(len(firsts), set(pairs))
+            for i in set(firsts):
+                for j in set(firsts):
+                    self.assertEqual(numbers[i] == numbers[j], joined[i][j])
+                self.assertEqual(numbers[i], joined[i].index(True))
+                with_chains += sum(joined[i]) > counts[i] + 1
+            for position, first in enumerate(firsts):
+                self.assertEqual(numbers[position], numbers[first])
+                copies_of_later += numbers[position] < first < position
             lines = [line.split() for line in island_sheet(text).splitlines()]
             listed = [int(number) for _, number, _ in lines]
             self.assertEqual(listed, sorted(set(numbers)))
             self.assertEqual([int(size) for _, _, size in lines], [numbers.count(number) for number in listed])
-            self.assertEqual(sum(int(size) for _, _, size in lines), len(trees))
-        self.assertGreater(with_chains, 20)
+            self.assertEqual(sum(int(size) for _, _, size in lines), len(firsts))
+        self.assertGreater(with_chains, 50)
+        self.assertGreater(copies_of_later, 50)
+
+    def test_islands_of_copies_kept_apart(self):
+        """The islands are those of the pairs kept apart, once each copy is
+        joined to its first as well."""
+        more = 0
+        for text in texts_with_copies(29, 80):
+            pairs, _, firsts = kept_apart(text)
+            joined = joined_matrix(len(firsts), set(pairs) | set(enumerate(firsts)))
+            self.assertEqual(islands(text).numbers, [row.index(True) for row in joined])
+            more += joined != joined_matrix(len(firsts), set(pairs))
+        self.assertGreater(more, 10)
 
 
 class Generator(unittest.TestCase):
@@ -690,7 +929,8 @@ class Generator(unittest.TestCase):
             "damaged-label": b"refused 2 ", "repeated-label": b"refused 3 ", "too-deep": b"refused 4 ",
             "other-labels": b"refused 5 ", "too-many": b"refused 6 ", "deep-comb": b"trees ",
             "random-table": b"trees ", "chain": b"trees ", "copies": b"trees ", "crowd": b"trees ",
-            "interchanges": b"trees ", "islands": b"trees ", "zeros": b"trees ",
+            "interchanges": b"trees ", "islands": b"trees ", "zeros": b"trees ", "repeats": b"trees ",
+            "copy": b"trees ",
         }
         refused = set()
         for position, kind, text in generate.cases(5, 800):
@@ -698,9 +938,47 @@ class Generator(unittest.TestCase):
             self.assertTrue(output.startswith(promised.get(kind, b"")), (position, kind))
             if kind == "islands":
                 self.assertGreater(len(island_sheet(text).splitlines()), 1, position)
+            if kind in ("copy", "repeats"):
+                firsts = graph(text).firsts
+                self.assertLess(len(set(firsts)), len(firsts), position)
             if output.startswith(b"refused"):
                 refused.add(int(output.split()[1]))
         self.assertEqual(refused, {1, 2, 3, 4, 5, 6, 8})
+
+    def test_mirrored(self):
+        """Every fork's children are swapped."""
+        self.assertEqual(generate.mirrored(((1, 2), (3, (4, 5)))), (((5, 4), 3), (2, 1)))
+
+    def test_repeats_are_mixed(self):
+        """Many of these tables have a copy in another child order, a copy
+        before and one behind a neighbour's first, a copy without neighbours,
+        two topologies with copies, and a first behind a copy of another."""
+        rng = random.Random(30)
+        seen = collections.Counter()
+        for _ in range(60):
+            trees = generate.repeats_table(rng)
+            pairs, _, firsts = graph(generate.plain(trees))
+            copies = [position for position, first in enumerate(firsts) if first < position]
+            linked = set(pairs) | {(j, i) for i, j in pairs}
+            beside = [(position, other) for position in copies for first, other in linked if first == firsts[position]]
+            seen["other order"] += any(trees[position] != trees[firsts[position]] for position in copies)
+            seen["before"] += any(position < other for position, other in beside)
+            seen["behind"] += any(position > other for position, other in beside)
+            seen["alone"] += any(all(position != one for one, _ in beside) for position in copies)
+            seen["two topologies"] += len({firsts[position] for position in copies}) > 1
+            seen["first behind"] += copies[0] < max(firsts)
+        self.assertGreater(min(seen.values()), 9, seen)
+
+    def test_islands_are_the_groups(self):
+        """Each group of an island table is one island, with its copies."""
+        with_copies = 0
+        for seed in range(40):
+            # The sizes of the groups are the first thing that is drawn.
+            sizes = generate.group_sizes(random.Random(seed))
+            answer = islands(generate.plain(generate.island_table(random.Random(seed))))
+            self.assertEqual(sorted(collections.Counter(answer.numbers).values()), sorted(sizes))
+            with_copies += len(set(answer.firsts)) < len(answer.firsts)
+        self.assertGreater(with_copies, 20)
 
     def test_island_tables_are_mixed(self):
         """Many of them have two islands of two or more trees, islands of two

@@ -7,6 +7,9 @@
 //! canonical texts of all trees one interchange away are looked up among those
 //! of the table. Islands are found by uniting sets along the listed pairs.
 //!
+//! Copies are trees of one topology. Merged, only the first of them stands in
+//! pairs; kept apart, each of them does. They are never a pair with each other.
+//!
 //! Results are returned, not written into lent memory, so refusal 7 (a lent
 //! slice too short) does not arise.
 
@@ -59,10 +62,22 @@ pub struct Refusal {
 
 /// Pairs (i, j) with i < j in order of i, then j, and the neighbour count of
 /// each tree.
-pub type Graph = (Vec<(u16, u16)>, Vec<u16>);
+pub type Listing = (Vec<(u16, u16)>, Vec<u16>);
 
-/// Pairs and neighbour counts of a graph, and the number of each tree's island.
-pub type Islands = (Vec<(u16, u16)>, Vec<u16>, Vec<u16>);
+/// A listing and, for each tree, the first position of its topology.
+#[derive(Debug, PartialEq, Eq)]
+pub struct Graph {
+    pub pairs: Vec<(u16, u16)>,
+    pub counts: Vec<u16>,
+    pub firsts: Vec<u16>,
+}
+
+/// A graph with copies merged, and the number of each tree's island.
+#[derive(Debug, PartialEq, Eq)]
+pub struct Islands {
+    pub graph: Graph,
+    pub numbers: Vec<u16>,
+}
 
 /// The canonical text of a text with exactly one tree.
 pub fn form(text: &[u8]) -> Result<Vec<u8>, Refusal> {
@@ -119,22 +134,32 @@ pub fn table(text: &[u8]) -> Result<(Vec<u8>, Vec<u32>), Refusal> {
     Ok((written, ends))
 }
 
-/// The listed pairs of a table and the neighbour count of each tree.
+/// The graph of a table with copies merged: only the first position of each
+/// topology stands in pairs, and a later copy has count 0.
 pub fn graph(text: &[u8]) -> Result<Graph, Refusal> {
-    Ok(graph_of(&read_table(text)?, sharing_a_forest))
+    Ok(graph_of(&read_table(text)?, Copies::Merged))
 }
 
-/// The same for one interchange in place of one move.
-pub fn interchanges(text: &[u8]) -> Result<Graph, Refusal> {
-    Ok(graph_of(&read_table(text)?, one_interchange_apart))
+/// The graph of a table with copies kept apart: every position stands in pairs.
+pub fn graph_with_copies(text: &[u8]) -> Result<Graph, Refusal> {
+    Ok(graph_of(&read_table(text)?, Copies::KeptApart))
 }
 
-/// The graph of a table and the number of each tree's island: the smallest
-/// position that a chain of listed pairs joins it to, or its own.
+/// The pairs one interchange apart, with copies kept apart.
+pub fn interchanges(text: &[u8]) -> Result<Listing, Refusal> {
+    let trees = read_table(text)?;
+    Ok(Topologies::of(&trees).listing(Copies::KeptApart, one_interchange_apart))
+}
+
+/// The merged graph of a table and the number of each tree's island: the
+/// smallest position that a chain of listed pairs joins the first position of
+/// its topology to, or that position itself.
 pub fn islands(text: &[u8]) -> Result<Islands, Refusal> {
-    let (pairs, counts) = graph(text)?;
-    let numbers = island_numbers(counts.len(), &pairs);
-    Ok((pairs, counts, numbers))
+    let graph = graph(text)?;
+    let joined = island_numbers(graph.firsts.len(), &graph.pairs);
+    let of_first = |&first: &u16| joined[usize::from(first)];
+    let numbers = graph.firsts.iter().map(of_first).collect();
+    Ok(Islands { graph, numbers })
 }
 
 /// The islands of a table as text: a line for each, in order of number, with
@@ -146,12 +171,12 @@ pub fn island_sheet(text: &[u8]) -> Vec<u8> {
 }
 
 fn write_island_sheet(text: &[u8], out: &mut Vec<u8>) -> std::io::Result<()> {
-    let numbers = match islands(text) {
-        Ok((_, _, numbers)) => numbers,
+    let islands = match islands(text) {
+        Ok(islands) => islands,
         Err(refusal) => return write_refusal(refusal, out),
     };
     let mut sizes: BTreeMap<u16, usize> = BTreeMap::new();
-    for number in numbers {
+    for number in islands.numbers {
         *sizes.entry(number).or_default() += 1;
     }
     for (number, size) in sizes {
@@ -170,7 +195,7 @@ pub fn interchange_sheet(text: &[u8]) -> Vec<u8> {
 
 fn write_interchange_sheet(text: &[u8], out: &mut Vec<u8>) -> std::io::Result<()> {
     let (pairs, counts) = match interchanges(text) {
-        Ok(graph) => graph,
+        Ok(listing) => listing,
         Err(refusal) => return write_refusal(refusal, out),
     };
     writeln!(out, "trees {} pairs {}", counts.len(), pairs.len())?;
@@ -192,19 +217,21 @@ fn write_sheet(text: &[u8], out: &mut Vec<u8>) -> std::io::Result<()> {
         Ok(trees) => trees,
         Err(refusal) => return write_refusal(refusal, out),
     };
-    let (pairs, counts) = graph_of(&trees, sharing_a_forest);
-    writeln!(out, "trees {} pairs {}", trees.len(), pairs.len())?;
-    let mut copies: HashMap<&[u8], usize> = HashMap::new();
-    for tree in &trees {
-        *copies.entry(tree.canonical_text()).or_default() += 1;
+    let graph = graph_of(&trees, Copies::KeptApart);
+    writeln!(out, "trees {} pairs {}", trees.len(), graph.pairs.len())?;
+    let mut copies = vec![0; trees.len()];
+    for &first in &graph.firsts {
+        copies[usize::from(first)] += 1;
     }
-    for (i, (tree, &neighbours)) in trees.iter().zip(&counts).enumerate() {
-        let unlinked = trees.len() - usize::from(neighbours) - copies[tree.canonical_text()];
+    for (i, tree) in trees.iter().enumerate() {
+        let neighbours = graph.counts[i];
+        let of_its_topology = copies[usize::from(graph.firsts[i])];
+        let unlinked = trees.len() - usize::from(neighbours) - of_its_topology;
         write!(out, "tree {i} neighbours {neighbours} unlinked {unlinked} ")?;
         out.extend_from_slice(tree.canonical_text());
         out.push(b'\n');
     }
-    write_pairs(&pairs, out)
+    write_pairs(&graph.pairs, out)
 }
 
 fn write_pairs(pairs: &[(u16, u16)], out: &mut Vec<u8>) -> std::io::Result<()> {
@@ -263,37 +290,87 @@ fn read_table(text: &[u8]) -> Result<Vec<Tree>, Refusal> {
     Ok(trees)
 }
 
+/// Which positions stand in pairs: the first of each topology, or all.
+#[derive(Clone, Copy)]
+enum Copies {
+    Merged,
+    KeptApart,
+}
+
 /// For trees of different topologies: which of them are neighbours.
 type Adjacency = Vec<Vec<bool>>;
 
-fn graph_of(trees: &[Tree], adjacency: fn(&[&Tree]) -> Adjacency) -> Graph {
-    // As in document 001 a topology is inserted once, however often it occurs.
-    let mut number_of: HashMap<&[u8], usize> = HashMap::new();
-    let mut distinct: Vec<&Tree> = Vec::new();
-    let mut numbers: Vec<usize> = Vec::with_capacity(trees.len());
-    for tree in trees {
-        let number = *number_of
-            .entry(tree.canonical_text())
-            .or_insert(distinct.len());
-        if number == distinct.len() {
-            distinct.push(tree);
+/// The topologies of a table, numbered in order of first position.
+///
+/// As in document 001 a topology is inserted once, however often it occurs.
+struct Topologies<'a> {
+    /// The first tree of each, and its position.
+    trees: Vec<&'a Tree>,
+    positions: Vec<usize>,
+    /// The number of the topology at each position of the table.
+    numbers: Vec<usize>,
+}
+
+impl<'a> Topologies<'a> {
+    fn of(table: &'a [Tree]) -> Topologies<'a> {
+        let mut number_of: HashMap<&[u8], usize> = HashMap::new();
+        let mut topologies = Topologies {
+            trees: Vec::new(),
+            positions: Vec::new(),
+            numbers: Vec::with_capacity(table.len()),
+        };
+        for (position, tree) in table.iter().enumerate() {
+            let next = topologies.trees.len();
+            let number = *number_of.entry(tree.canonical_text()).or_insert(next);
+            if number == next {
+                topologies.trees.push(tree);
+                topologies.positions.push(position);
+            }
+            topologies.numbers.push(number);
         }
-        numbers.push(number);
+        topologies
     }
 
-    let adjacent = adjacency(&distinct);
-    let mut pairs = Vec::new();
-    let mut counts = vec![0; trees.len()];
-    for i in 0..trees.len() {
-        for j in i + 1..trees.len() {
-            if adjacent[numbers[i]][numbers[j]] {
-                pairs.push((i as u16, j as u16));
-                counts[i] += 1;
-                counts[j] += 1;
-            }
+    /// The first position of the topology at each position.
+    fn firsts(&self) -> Vec<u16> {
+        let first = |&number: &usize| self.positions[number] as u16;
+        self.numbers.iter().map(first).collect()
+    }
+
+    /// The positions that can stand in pairs, in order.
+    fn standing(&self, copies: Copies) -> Vec<usize> {
+        match copies {
+            Copies::Merged => self.positions.clone(),
+            Copies::KeptApart => (0..self.numbers.len()).collect(),
         }
     }
-    (pairs, counts)
+
+    fn listing(&self, copies: Copies, adjacency: fn(&[&Tree]) -> Adjacency) -> Listing {
+        let adjacent = adjacency(&self.trees);
+        let standing = self.standing(copies);
+        let mut pairs = Vec::new();
+        let mut counts = vec![0; self.numbers.len()];
+        for (k, &i) in standing.iter().enumerate() {
+            for &j in &standing[k + 1..] {
+                if adjacent[self.numbers[i]][self.numbers[j]] {
+                    pairs.push((i as u16, j as u16));
+                    counts[i] += 1;
+                    counts[j] += 1;
+                }
+            }
+        }
+        (pairs, counts)
+    }
+}
+
+fn graph_of(trees: &[Tree], copies: Copies) -> Graph {
+    let topologies = Topologies::of(trees);
+    let (pairs, counts) = topologies.listing(copies, sharing_a_forest);
+    Graph {
+        pairs,
+        counts,
+        firsts: topologies.firsts(),
+    }
 }
 
 /// Neighbours by one move.

@@ -1,5 +1,6 @@
 //! Reads a table of trees from standard input and prints the sheet; with
-//! `--interchanges`, the graph of interchanges; with `--islands`, the islands.
+//! `--interchanges`, the graph of interchanges; with `--islands`, the islands,
+//! in which copies are merged.
 
 use std::io::{self, Read, Write};
 

@@ -1,4 +1,4 @@
-//! The samples of document 01, interchanges and islands.
+//! The samples of document 01, copies, interchanges and islands.
 
 use super::*;
 
@@ -12,6 +12,14 @@ fn refused<T>(number: u8, place: usize) -> Result<T, Refusal> {
 
 fn text(s: &str) -> Result<Vec<u8>, Refusal> {
     Ok(s.as_bytes().to_vec())
+}
+
+fn listed(pairs: &[(u16, u16)], counts: &[u16], firsts: &[u16]) -> Result<Graph, Refusal> {
+    Ok(Graph {
+        pairs: pairs.to_vec(),
+        counts: counts.to_vec(),
+        firsts: firsts.to_vec(),
+    })
 }
 
 /// `(((1,2),3), ...` with the given number of leaves.
@@ -44,9 +52,10 @@ fn refused_forms() {
 fn empty_text() {
     assert_eq!(form(b""), refused(1, 0));
     assert_eq!(table(b""), Ok((vec![], vec![])));
-    assert_eq!(graph(b""), Ok((vec![], vec![])));
+    assert_eq!(graph(b""), listed(&[], &[], &[]));
+    assert_eq!(graph_with_copies(b""), listed(&[], &[], &[]));
     assert_eq!(interchanges(b""), Ok((vec![], vec![])));
-    assert_eq!(islands(b""), Ok((vec![], vec![], vec![])));
+    has_islands("", &[], &[]);
     assert_eq!(sheet(b""), b"trees 0 pairs 0\n");
     assert_eq!(island_sheet(b""), b"");
 }
@@ -114,7 +123,7 @@ fn three_shared_forests_and_one_pair() {
     assert_eq!(forests(one).intersection(&forests(other)).count(), 3);
     assert_eq!(
         graph(b"(((1,2),3),4);((1,2),(3,4));"),
-        Ok((vec![(0, 1)], vec![1, 1]))
+        listed(&[(0, 1)], &[1, 1], &[0, 1])
     );
 }
 
@@ -162,6 +171,7 @@ fn number_of_trees() {
     let one_more = format!("{full}(1,2);");
     assert_eq!(table(one_more.as_bytes()), refused(6, 960));
     assert_eq!(graph(one_more.as_bytes()), refused(6, 960));
+    assert_eq!(graph_with_copies(one_more.as_bytes()), refused(6, 960));
     assert_eq!(interchanges(one_more.as_bytes()), refused(6, 960));
     assert_eq!(islands(one_more.as_bytes()), refused(6, 960));
 }
@@ -170,14 +180,18 @@ fn number_of_trees() {
 fn length_of_the_text() {
     assert_eq!(table(&vec![b' '; 65_535]), Ok((vec![], vec![])));
     assert_eq!(table(&vec![b'x'; 65_536]), refused(8, 0));
+    assert_eq!(graph(&vec![b'x'; 65_536]), refused(8, 0));
+    assert_eq!(graph_with_copies(&vec![b'x'; 65_536]), refused(8, 0));
     assert_eq!(interchanges(&vec![b'x'; 65_536]), refused(8, 0));
     assert_eq!(islands(&vec![b'x'; 65_536]), refused(8, 0));
     assert_eq!(sheet(&vec![b'x'; 65_536]), b"refused 8 at 0\n");
 }
 
+/// Document 01's table, in which the first tree comes twice.
+const SAMPLE: &[u8] = b"((2,1),3);\n(3,(2,1));\n(1,(2,3));\n((1,3),2);\n";
+
 #[test]
 fn sample_sheet() {
-    let input = b"((2,1),3);\n(3,(2,1));\n(1,(2,3));\n((1,3),2);\n";
     let expected = "\
 trees 4 pairs 5
 tree 0 neighbours 2 unlinked 0 ((1,2),3);
@@ -190,8 +204,112 @@ pair 1 2
 pair 1 3
 pair 2 3
 ";
-    assert_eq!(String::from_utf8(sheet(input)).unwrap(), expected);
+    assert_eq!(String::from_utf8(sheet(SAMPLE)).unwrap(), expected);
     assert_eq!(sheet(b"(1,2,3);"), b"refused 1 at 4\n");
+}
+
+#[test]
+fn graphs_of_copies() {
+    assert_eq!(
+        graph(SAMPLE),
+        listed(&[(0, 2), (0, 3), (2, 3)], &[2, 0, 2, 2], &[0, 0, 2, 3])
+    );
+    assert_eq!(
+        graph_with_copies(SAMPLE),
+        listed(
+            &[(0, 2), (0, 3), (1, 2), (1, 3), (2, 3)],
+            &[2, 2, 3, 3],
+            &[0, 0, 2, 3]
+        )
+    );
+    for graph in [graph, graph_with_copies] {
+        assert_eq!(graph(b"(1,2);(2,1);"), listed(&[], &[0, 0], &[0, 0]));
+        assert_eq!(graph(b"(1,2);(1,3);"), refused(5, 11));
+    }
+}
+
+#[test]
+fn full_tables_of_copies() {
+    let table = "((1,2),3);".repeat(159) + "((1,3),2);";
+    let mut firsts = [0; 160];
+    firsts[159] = 159;
+    let mut counts = [0; 160];
+    (counts[0], counts[159]) = (1, 1);
+    assert_eq!(
+        graph(table.as_bytes()),
+        listed(&[(0, 159)], &counts, &firsts)
+    );
+    let pairs: Vec<(u16, u16)> = (0..159).map(|i| (i, 159)).collect();
+    let mut counts = [1; 160];
+    counts[159] = 159;
+    assert_eq!(
+        graph_with_copies(table.as_bytes()),
+        listed(&pairs, &counts, &firsts)
+    );
+}
+
+/// Pairs of these positions, which ascend, by the pair call; counts of all.
+fn pairs_by_call(trees: &[&str], positions: &[u16]) -> Listing {
+    let (mut pairs, mut counts) = (Vec::new(), vec![0; trees.len()]);
+    for &i in positions {
+        for &j in positions.iter().filter(|&&j| i < j) {
+            let (one, other) = (usize::from(i), usize::from(j));
+            if pair(trees[one].as_bytes(), trees[other].as_bytes()) == Ok(true) {
+                pairs.push((i, j));
+                counts[one] += 1;
+                counts[other] += 1;
+            }
+        }
+    }
+    (pairs, counts)
+}
+
+/// The graphs and islands of a table by its trees' forms and the pair call.
+/// Gives whether the graphs differ.
+fn is_merged_and_kept_apart(trees: &[&str]) -> bool {
+    let table = trees.concat();
+    let forms: Vec<Vec<u8>> = trees
+        .iter()
+        .map(|tree| form(tree.as_bytes()).unwrap())
+        .collect();
+    let first = |one: &Vec<u8>| forms.iter().position(|other| other == one).unwrap() as u16;
+    let firsts: Vec<u16> = forms.iter().map(first).collect();
+    let all: Vec<u16> = (0..).take(trees.len()).collect();
+    let merged: Vec<u16> = all.iter().copied().filter(|i| firsts.contains(i)).collect();
+
+    let (pairs, counts) = pairs_by_call(trees, &merged);
+    let expected = listed(&pairs, &counts, &firsts);
+    assert_eq!(graph(table.as_bytes()), expected, "{table}");
+    let (all_pairs, counts) = pairs_by_call(trees, &all);
+    let expected = listed(&all_pairs, &counts, &firsts);
+    assert_eq!(graph_with_copies(table.as_bytes()), expected, "{table}");
+
+    // The islands are also those of all pairs, with copies joined to firsts.
+    let copies = firsts.iter().copied().zip(all);
+    let joining: Vec<(u16, u16)> = all_pairs.iter().copied().chain(copies).collect();
+    has_islands(&table, &pairs, &island_numbers(trees.len(), &joining));
+    pairs != all_pairs
+}
+
+/// Every table of up to five of these texts: a chain of three trees, and its
+/// middle written in another way.
+#[test]
+fn merged_and_kept_apart() {
+    let texts = [
+        "(((1,2),3),4);",
+        "((1,2),(3,4));",
+        "(((3,4),1),2);",
+        "((4,3),(2,1));",
+    ];
+    let mut differing = 0;
+    for trees in 0..=5 {
+        for chosen in 0..texts.len().pow(trees) {
+            let text = |k| texts[chosen / texts.len().pow(k) % texts.len()];
+            let table: Vec<&str> = (0..trees).map(text).collect();
+            differing += usize::from(is_merged_and_kept_apart(&table));
+        }
+    }
+    assert!(differing > 1_000, "{differing}");
 }
 
 /// The canonical texts one interchange away from a tree.
@@ -261,7 +379,7 @@ fn interchange_graphs() {
     );
     // Copies are kept apart, and are no pair.
     assert_eq!(
-        interchanges(b"((2,1),3);(3,(2,1));(1,(2,3));((1,3),2);"),
+        interchanges(SAMPLE),
         Ok((
             vec![(0, 2), (0, 3), (1, 2), (1, 3), (2, 3)],
             vec![2, 2, 3, 3]
@@ -274,11 +392,12 @@ fn interchange_graphs() {
 const MIXED: &str = "((((3,4),2),1),5); ((((1,2),5),4),3); ((((3,4),5),1),2); ((((1,2),3),4),5);
     ((((2,5),1),4),3); ((((3,4),2),1),5); ((((2,3),4),5),1);";
 
-/// A table with these pairs and islands; the counts are those of its graph.
+/// A table with these pairs and islands, copies merged.
 fn has_islands(table: &str, pairs: &[(u16, u16)], numbers: &[u16]) {
-    let (listed, counts) = graph(table.as_bytes()).unwrap();
-    assert_eq!(listed, pairs, "{table}");
-    let expected = Ok((listed, counts, numbers.to_vec()));
+    let graph = graph(table.as_bytes()).unwrap();
+    assert_eq!(graph.pairs, pairs, "{table}");
+    let numbers = numbers.to_vec();
+    let expected = Ok(Islands { graph, numbers });
     assert_eq!(islands(table.as_bytes()), expected, "{table}");
 }
 
@@ -298,23 +417,27 @@ fn islands_of_tables() {
         &[(0, 2), (1, 2)],
         &[0, 0, 0],
     );
-    // Copies are no pair; a neighbour of theirs joins them.
-    has_islands("((1,2),3);(3,(2,1));", &[], &[0, 1]);
+    // A copy has the island of its first, with and without neighbours.
+    has_islands("((1,2),3);(3,(2,1));", &[], &[0, 0]);
+    has_islands("((1,2),3);(3,(2,1));((1,3),2);", &[(0, 2)], &[0, 0, 0]);
     has_islands(
-        "((1,2),3);(3,(2,1));((1,3),2);",
+        &format!("{last}{first}{middle}{first}{last}"),
         &[(0, 2), (1, 2)],
-        &[0, 0, 0],
+        &[0; 5],
     );
-    has_islands(MIXED, &[(1, 4), (2, 6), (3, 6)], &[0, 1, 2, 2, 1, 5, 2]);
+    has_islands(MIXED, &[(1, 4), (2, 6), (3, 6)], &[0, 1, 2, 2, 1, 0, 2]);
     assert_eq!(islands(b"(1,2);(1,3);"), refused(5, 11));
 }
 
 #[test]
 fn islands_of_full_tables() {
-    let alone: Vec<u16> = (0..160).collect();
-    has_islands(&"(1,2);".repeat(160), &[], &alone);
+    has_islands(&"(1,2);".repeat(160), &[], &[0; 160]);
     let joined = "((1,2),3);".repeat(159) + "((1,3),2);";
-    assert_eq!(islands(joined.as_bytes()).unwrap().2, [0; 160]);
+    has_islands(&joined, &[(0, 159)], &[0; 160]);
+    let apart = "(((1,2),3),4);".repeat(159) + "(((3,4),1),2);";
+    let mut numbers = [0; 160];
+    numbers[159] = 159;
+    has_islands(&apart, &[], &numbers);
 }
 
 /// Every graph of five positions beside the numbers that no pair makes smaller.
@@ -342,12 +465,11 @@ fn islands_of_every_small_graph() {
 
 #[test]
 fn island_sheets() {
-    let input = b"((2,1),3);\n(3,(2,1));\n(1,(2,3));\n((1,3),2);\n";
-    assert_eq!(island_sheet(input), b"island 0 4\n");
+    assert_eq!(island_sheet(SAMPLE), b"island 0 4\n");
     assert_eq!(island_sheet(b" \t\r\n"), b"");
     assert_eq!(
         island_sheet(MIXED.as_bytes()),
-        b"island 0 1\nisland 1 2\nisland 2 3\nisland 5 1\n"
+        b"island 0 2\nisland 1 2\nisland 2 3\n"
     );
     assert_eq!(island_sheet(b"(1,2,3);"), b"refused 1 at 4\n");
     assert_eq!(island_sheet(&vec![b'x'; 65_536]), b"refused 8 at 0\n");

@@ -4,17 +4,27 @@
 //! that gives a text or numbers comes in two kinds: one returns them, and one writes them into the caller's slices,
 //! allocates nothing and says how much it wrote.
 //!
+//! Trees of one topology are copies of each other, however they are written; two copies are never a pair. The first
+//! position of a topology is the smallest position whose tree has it. [`graph`] and [`islands`] merge copies: only
+//! first positions stand in pairs. [`graph_choosing`] can keep copies apart, and [`interchanges`] always does.
+//!
 //! ```
 //! assert_eq!(norbelath::form(b"(3,(2,1));").unwrap(), b"((1,2),3);");
 //! assert_eq!(norbelath::cut(b"((1,2),(3,4));", 0).unwrap(), b"(3,4) (1,2);");
 //! assert_eq!(norbelath::pair(b"(((1,2),3),4);", b"((1,2),(3,4));"), Ok(true));
-//! let graph = norbelath::graph(b"((1,2),3); (1,(2,3)); ((1,2),3);").unwrap();
+//! let trees = b"((1,2),3); (1,(2,3)); (3,(2,1));";
+//! let graph = norbelath::graph(trees).unwrap();
+//! assert_eq!(graph.pairs, [(0, 1)]);
+//! assert_eq!(graph.counts, [1, 1, 0]);
+//! assert_eq!(graph.firsts, [0, 1, 0]);
+//! let graph = norbelath::graph_choosing(trees, norbelath::Copies::KeepApart).unwrap();
 //! assert_eq!(graph.pairs, [(0, 1), (1, 2)]);
 //! assert_eq!(graph.counts, [1, 2, 1]);
-//! let graph = norbelath::interchanges(b"(((1,2),3),4); ((1,2),(3,4)); (((1,4),2),3);").unwrap();
-//! assert_eq!(graph.pairs, [(0, 1)]);
-//! let answer = norbelath::islands(b"(((1,2),3),4); (1,(2,(3,4))); (((1,3),2),4);").unwrap();
-//! assert_eq!(answer.islands, [0, 1, 0]);
+//! assert_eq!(graph.firsts, [0, 1, 0]);
+//! let answer = norbelath::interchanges(b"(((1,2),3),4); ((1,2),(3,4)); (((1,4),2),3);").unwrap();
+//! assert_eq!(answer.pairs, [(0, 1)]);
+//! let answer = norbelath::islands(b"(((1,2),3),4); (1,(2,(3,4))); (((1,3),2),4); ((2,(4,3)),1);").unwrap();
+//! assert_eq!(answer.islands, [0, 1, 0, 1]);
 //! let table = norbelath::table(b"(2,1); (1,2);").unwrap();
 //! assert_eq!(table.trees().collect::<Vec<_>>(), [b"(1,2);", b"(1,2);"]);
 //! assert_eq!(norbelath::sheet(b"(1,2);"), b"trees 1 pairs 0\ntree 0 neighbours 0 unlinked 0 (1,2);\n");
@@ -39,11 +49,13 @@ pub const CUT_OUT: usize = 307;
 pub const TABLE_TEXTS: usize = 49_440;
 /// The least length of the slice lent to [`table_into`] for the ends.
 pub const TABLE_ENDS: usize = 160;
-/// The least length of the slice lent to [`graph_into`], [`interchanges_into`] or [`islands_into`] for the pairs, two
-/// numbers each.
+/// The least length of the slice lent to [`graph_into`], [`graph_choosing_into`], [`interchanges_into`] or
+/// [`islands_into`] for the pairs, two numbers each.
 pub const GRAPH_PAIRS: usize = 25_440;
-/// The least length of the slice lent to [`graph_into`], [`interchanges_into`] or [`islands_into`] for the counts.
+/// The least length of the slice lent to the same calls for the counts.
 pub const GRAPH_COUNTS: usize = 160;
+/// The least length of the slice lent to [`graph_into`], [`graph_choosing_into`] or [`islands_into`] for the firsts.
+pub const GRAPH_FIRSTS: usize = 160;
 /// The least length of the slice lent to [`islands_into`] for the islands.
 pub const ISLANDS: usize = 160;
 /// The least length of the slice lent to [`sheet_into`].
@@ -94,6 +106,21 @@ extern "C" {
         pairs_len: usize,
         counts: *mut u16,
         counts_len: usize,
+        firsts: *mut u16,
+        firsts_len: usize,
+        first: *mut u64,
+        second: *mut u64,
+    ) -> u8;
+    fn norbelath_graph_choosing(
+        text: *const u8,
+        text_len: usize,
+        choice: u8,
+        pairs: *mut u16,
+        pairs_len: usize,
+        counts: *mut u16,
+        counts_len: usize,
+        firsts: *mut u16,
+        firsts_len: usize,
         first: *mut u64,
         second: *mut u64,
     ) -> u8;
@@ -114,6 +141,8 @@ extern "C" {
         pairs_len: usize,
         counts: *mut u16,
         counts_len: usize,
+        firsts: *mut u16,
+        firsts_len: usize,
         islands: *mut u16,
         islands_len: usize,
         first: *mut u64,
@@ -129,17 +158,24 @@ extern "C" {
     ) -> u8;
 }
 
-/// A call of the library that lists pairs into two slices: the graph call or the interchange call.
-type Lister = unsafe extern "C" fn(
-    text: *const u8,
-    text_len: usize,
-    pairs: *mut u16,
-    pairs_len: usize,
-    counts: *mut u16,
-    counts_len: usize,
-    first: *mut u64,
-    second: *mut u64,
-) -> u8;
+/// What a graph does with copies, the trees of one topology.
+#[derive(Clone, Copy, Debug, PartialEq, Eq, Hash)]
+pub enum Copies {
+    /// Only the first position of each topology stands in pairs. A later copy has count 0.
+    Merge,
+    /// Every position may stand in pairs. A copy has the neighbours and the count of its first.
+    KeepApart,
+}
+
+impl Copies {
+    /// The number that stands for the choice.
+    fn choice(self) -> u8 {
+        match self {
+            Copies::Merge => 0,
+            Copies::KeepApart => 1,
+        }
+    }
+}
 
 /// Why a call refuses. No lent slice is changed then.
 #[derive(Clone, Copy, Debug, PartialEq, Eq, Hash)]
@@ -204,8 +240,7 @@ pub struct TableSize {
     pub trees: usize,
 }
 
-/// How much [`graph_into`], [`interchanges_into`] or [`islands_into`] wrote: a count for each tree, and two numbers for
-/// each pair; the last also an island for each tree.
+/// How much a call that lists pairs wrote: two numbers for each pair, and in each other slice a number for each tree.
 #[derive(Clone, Copy, Debug, PartialEq, Eq)]
 pub struct GraphSize {
     pub trees: usize,
@@ -231,19 +266,29 @@ impl Table {
     }
 }
 
-/// What [`graph`] gives: the pairs of positions i < j that are one move apart, in order of i and then j, and for each
-/// position the number of pairs it is in. [`interchanges`] gives the same for one interchange.
+/// What [`graph`] and [`graph_choosing`] give: the pairs of positions i < j that are one move apart, in order of i and
+/// then j; for each position the number of pairs it is in; and for each the first position of its topology.
 #[derive(Clone, Debug, PartialEq, Eq)]
 pub struct Graph {
     pub pairs: Vec<(u16, u16)>,
     pub counts: Vec<u16>,
+    pub firsts: Vec<u16>,
 }
 
-/// What [`islands`] gives: the pairs and counts of [`graph`], and for each position the number of its island.
+/// What [`interchanges`] gives: the pairs of positions i < j that are one interchange apart, in order of i and then j,
+/// and for each position the number of pairs it is in.
+#[derive(Clone, Debug, PartialEq, Eq)]
+pub struct Interchanges {
+    pub pairs: Vec<(u16, u16)>,
+    pub counts: Vec<u16>,
+}
+
+/// What [`islands`] gives: the pairs, counts and firsts of [`graph`], and for each position the number of its island.
 #[derive(Clone, Debug, PartialEq, Eq)]
 pub struct Islands {
     pub pairs: Vec<(u16, u16)>,
     pub counts: Vec<u16>,
+    pub firsts: Vec<u16>,
     pub islands: Vec<u16>,
 }
 
@@ -328,34 +373,65 @@ pub fn table_into(text: &[u8], texts: &mut [u8], ends: &mut [u32]) -> Result<Tab
     Ok(TableSize { bytes, trees })
 }
 
-/// Writes the pairs of a text's trees that are one move apart into `pairs`, i and then j of each, of at least
-/// [`GRAPH_PAIRS`] numbers, and each tree's number of pairs into `counts`, of at least [`GRAPH_COUNTS`].
+/// Writes the pairs of a text's trees that are one move apart, copies merged, into `pairs`, i and then j of each, of at
+/// least [`GRAPH_PAIRS`] numbers; each tree's number of pairs into `counts`, of at least [`GRAPH_COUNTS`]; and the
+/// first position of each tree's topology into `firsts`, of at least [`GRAPH_FIRSTS`].
 pub fn graph_into(
     text: &[u8],
     pairs: &mut [u16],
     counts: &mut [u16],
+    firsts: &mut [u16],
 ) -> Result<GraphSize, Refusal> {
-    list_into(norbelath_graph, text, pairs, counts)
+    listed(|first, second| unsafe {
+        norbelath_graph(
+            text.as_ptr(),
+            text.len(),
+            pairs.as_mut_ptr(),
+            pairs.len(),
+            counts.as_mut_ptr(),
+            counts.len(),
+            firsts.as_mut_ptr(),
+            firsts.len(),
+            first,
+            second,
+        )
+    })
 }
 
-/// Writes the pairs of a text's trees that are one nearest-neighbour interchange apart, and each tree's number of
-/// pairs, as [`graph_into`] does for one move.
+/// Writes what [`graph_into`] writes, with copies merged or kept apart.
+pub fn graph_choosing_into(
+    text: &[u8],
+    copies: Copies,
+    pairs: &mut [u16],
+    counts: &mut [u16],
+    firsts: &mut [u16],
+) -> Result<GraphSize, Refusal> {
+    listed(|first, second| unsafe {
+        norbelath_graph_choosing(
+            text.as_ptr(),
+            text.len(),
+            copies.choice(),
+            pairs.as_mut_ptr(),
+            pairs.len(),
+            counts.as_mut_ptr(),
+            counts.len(),
+            firsts.as_mut_ptr(),
+            firsts.len(),
+            first,
+            second,
+        )
+    })
+}
+
+/// Writes the pairs of a text's trees that are one nearest-neighbour interchange apart, copies kept apart, into `pairs`
+/// and each tree's number of pairs into `counts`, as [`graph_into`] does for one move.
 pub fn interchanges_into(
     text: &[u8],
     pairs: &mut [u16],
     counts: &mut [u16],
 ) -> Result<GraphSize, Refusal> {
-    list_into(norbelath_interchanges, text, pairs, counts)
-}
-
-fn list_into(
-    lister: Lister,
-    text: &[u8],
-    pairs: &mut [u16],
-    counts: &mut [u16],
-) -> Result<GraphSize, Refusal> {
-    let (trees, pairs) = answer(|first, second| unsafe {
-        lister(
+    listed(|first, second| unsafe {
+        norbelath_interchanges(
             text.as_ptr(),
             text.len(),
             pairs.as_mut_ptr(),
@@ -365,8 +441,7 @@ fn list_into(
             first,
             second,
         )
-    })?;
-    Ok(GraphSize { trees, pairs })
+    })
 }
 
 /// Writes what [`graph_into`] writes, and the number of each tree's island into `islands`, of at least [`ISLANDS`]
@@ -375,9 +450,10 @@ pub fn islands_into(
     text: &[u8],
     pairs: &mut [u16],
     counts: &mut [u16],
+    firsts: &mut [u16],
     islands: &mut [u16],
 ) -> Result<GraphSize, Refusal> {
-    let (trees, pairs) = answer(|first, second| unsafe {
+    listed(|first, second| unsafe {
         norbelath_islands(
             text.as_ptr(),
             text.len(),
@@ -385,12 +461,19 @@ pub fn islands_into(
             pairs.len(),
             counts.as_mut_ptr(),
             counts.len(),
+            firsts.as_mut_ptr(),
+            firsts.len(),
             islands.as_mut_ptr(),
             islands.len(),
             first,
             second,
         )
-    })?;
+    })
+}
+
+/// Makes a call that lists pairs.
+fn listed(call: impl FnOnce(&mut u64, &mut u64) -> u8) -> Result<GraphSize, Refusal> {
+    let (trees, pairs) = answer(call)?;
     Ok(GraphSize { trees, pairs })
 }
 
@@ -437,38 +520,62 @@ pub fn table(text: &[u8]) -> Result<Table, Refusal> {
     Ok(Table { texts, ends })
 }
 
-/// The pairs of a text's trees that are one move apart, and each tree's number of pairs.
+/// The pairs of a text's trees that are one move apart, each tree's number of pairs, and the first position of its
+/// topology. Copies are merged: only first positions stand in pairs, and a later copy has count 0.
 pub fn graph(text: &[u8]) -> Result<Graph, Refusal> {
-    list(|pairs, counts| graph_into(text, pairs, counts))
+    graph_by(|pairs, counts, firsts| graph_into(text, pairs, counts, firsts))
+}
+
+/// What [`graph`] gives, with copies merged or kept apart. The firsts are the same either way.
+pub fn graph_choosing(text: &[u8], copies: Copies) -> Result<Graph, Refusal> {
+    graph_by(|pairs, counts, firsts| graph_choosing_into(text, copies, pairs, counts, firsts))
 }
 
 /// The pairs of a text's trees that are one nearest-neighbour interchange apart, and each tree's number of pairs.
+/// Copies are kept apart.
 ///
 /// An interchange takes a node that is neither the root nor a child of the root and regrafts it on the edge above its
 /// aunt, the sibling of its parent.
-pub fn interchanges(text: &[u8]) -> Result<Graph, Refusal> {
-    list(|pairs, counts| interchanges_into(text, pairs, counts))
+pub fn interchanges(text: &[u8]) -> Result<Interchanges, Refusal> {
+    let (pairs, counts) = list_by(|pairs, counts| interchanges_into(text, pairs, counts))?;
+    Ok(Interchanges { pairs, counts })
 }
 
-/// The pairs of a text's trees that are one move apart, each tree's number of pairs, and the number of its island.
+/// What [`graph`] gives, and the number of each tree's island.
 ///
-/// An island is a group of trees that chains of those pairs join. Its number is the smallest position in it.
+/// An island is a group of first positions that chains of the pairs join, with their copies. Its number is the smallest
+/// position in it.
 pub fn islands(text: &[u8]) -> Result<Islands, Refusal> {
     let mut islands = vec![0; ISLANDS];
-    let Graph { pairs, counts } =
-        list(|pairs, counts| islands_into(text, pairs, counts, &mut islands))?;
-    islands.truncate(counts.len());
+    let graph =
+        graph_by(|pairs, counts, firsts| islands_into(text, pairs, counts, firsts, &mut islands))?;
+    islands.truncate(graph.counts.len());
     Ok(Islands {
-        pairs,
-        counts,
+        pairs: graph.pairs,
+        counts: graph.counts,
+        firsts: graph.firsts,
         islands,
     })
 }
 
-/// What a call writes into the pairs and the counts that it is lent.
-fn list(
-    call: impl FnOnce(&mut [u16], &mut [u16]) -> Result<GraphSize, Refusal>,
+/// What a call writes into the pairs, the counts and the firsts that it is lent.
+fn graph_by(
+    call: impl FnOnce(&mut [u16], &mut [u16], &mut [u16]) -> Result<GraphSize, Refusal>,
 ) -> Result<Graph, Refusal> {
+    let mut firsts = vec![0; GRAPH_FIRSTS];
+    let (pairs, counts) = list_by(|pairs, counts| call(pairs, counts, &mut firsts))?;
+    firsts.truncate(counts.len());
+    Ok(Graph {
+        pairs,
+        counts,
+        firsts,
+    })
+}
+
+/// What a call writes into the pairs and the counts that it is lent.
+fn list_by(
+    call: impl FnOnce(&mut [u16], &mut [u16]) -> Result<GraphSize, Refusal>,
+) -> Result<(Vec<(u16, u16)>, Vec<u16>), Refusal> {
     let mut pairs = vec![0; GRAPH_PAIRS];
     let mut counts = vec![0; GRAPH_COUNTS];
     let size = call(&mut pairs, &mut counts)?;
@@ -478,7 +585,7 @@ fn list(
         .chunks_exact(2)
         .map(|pair| (pair[0], pair[1]))
         .collect();
-    Ok(Graph { pairs, counts })
+    Ok((pairs, counts))
 }
 
 /// What the pair lister prints for a text: the sheet of its trees, or the line of its refusal.

@@ -3,7 +3,7 @@
 use mathlib.Core.Bool.{Bool, true, false}
 use mathlib.Core.List.{List}
 use Prim.Native.Nat.{ℕ}
-use Rattle.meaning.specs.Answer.{Answer, accepted, Outcome, TableSize, TableMemory, GraphSize, GraphMemory, IslandsMemory}
+use Rattle.meaning.specs.Answer.{Answer, accepted, Outcome, TableSize, TableMemory, GraphSize, GraphMemory, FirstsMemory, IslandsMemory}
 use Rattle.reading.specs.Paper.{refusalOf}
 use Rattle.calls.specs.declared.TextAnswer.{TextAnswer}
 use Rattle.calls.specs.declared.TextAnswer.the-variants.{Written, Refused}
@@ -37,7 +37,7 @@ tableAnswer (table.Refused x) = refusalOf x
 abbrev pub tableOutcome : TableAnswer → List ℕ → List ℕ → Outcome TableSize TableMemory
 tableOutcome r texts ends = record { answer = tableAnswer r; memory = record { texts = texts; ends = ends } }
 
--- the graph call, the interchange call and the islands call: the trees, and the pairs
+-- the calls that list pairs: the trees, and the pairs
 abbrev pub graphAnswer : GraphAnswer → Answer GraphSize
 graphAnswer (graph.Listed k m) = accepted (record { trees = k; pairs = m })
 graphAnswer (graph.Refused x) = refusalOf x
@@ -45,9 +45,16 @@ graphAnswer (graph.Refused x) = refusalOf x
 abbrev pub graphOutcome : GraphAnswer → List ℕ → List ℕ → Outcome GraphSize GraphMemory
 graphOutcome r pairs counts = record { answer = graphAnswer r; memory = record { pairs = pairs; counts = counts } }
 
--- the islands call: the same, with one slice more
-abbrev pub islandSlices : List ℕ → List ℕ → List ℕ → IslandsMemory
-islandSlices pairs counts islands = record { graph = record { pairs = pairs; counts = counts }; islands = islands }
+-- the graph call, with the first positions
+abbrev pub firstSlices : List ℕ → List ℕ → List ℕ → FirstsMemory
+firstSlices pairs counts firsts = record { graph = record { pairs = pairs; counts = counts }; firsts = firsts }
 
-abbrev pub islandsOutcome : GraphAnswer → List ℕ → List ℕ → List ℕ → Outcome GraphSize IslandsMemory
-islandsOutcome r pairs counts islands = record { answer = graphAnswer r; memory = islandSlices pairs counts islands }
+abbrev pub firstsOutcome : GraphAnswer → List ℕ → List ℕ → List ℕ → Outcome GraphSize FirstsMemory
+firstsOutcome r pairs counts firsts = record { answer = graphAnswer r; memory = firstSlices pairs counts firsts }
+
+-- the islands call, with one slice more
+abbrev pub islandSlices : List ℕ → List ℕ → List ℕ → List ℕ → IslandsMemory
+islandSlices pairs counts firsts islands = record { lists = firstSlices pairs counts firsts; islands = islands }
+
+abbrev pub islandsOutcome : GraphAnswer → List ℕ → List ℕ → List ℕ → List ℕ → Outcome GraphSize IslandsMemory
+islandsOutcome r pairs counts firsts islands = record { answer = graphAnswer r; memory = islandSlices pairs counts firsts islands }

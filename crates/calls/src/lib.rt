@@ -1,4 +1,5 @@
 // The public calls. None asks anything of its caller: what cannot be answered is refused, and a refusal changes no lent cell.
+use graph::Copies;
 use held::Table;
 use held::Tree;
 use pairs::Link;
@@ -11,14 +12,16 @@ ghost use Prim.Native.Nat.{_≤_};
 ghost use lib.Dec.{leb};
 ghost use lib.ListN.{length};
 ghost use Rattle.meaning.specs.Tree.{Tree as Topology};
+ghost use Rattle.meaning.specs.Interchange.{OneInterchange};
+ghost use Rattle.meaning.specs.Listing.{At};
 ghost use Rattle.meaning.specs.Reading.{got, readTree};
-ghost use Rattle.meaning.specs.Calls.{formCall, cutCall, beside, PairCall, tableCall, GraphBy, GraphCall, InterchangeCall, IslandsCall};
+ghost use Rattle.meaning.specs.Calls.{formCall, cutCall, beside, PairCall, tableCall, InterchangeCall, ChoosingCall, GraphCall, IslandsCall};
 ghost use Rattle.meaning.specs.Sheet.{SheetCall};
 ghost use Rattle.held.specs.Held.{nodes};
-ghost use Rattle.held.specs.Kept.{Keeps, Kept};
-ghost use Rattle.pairs.specs.Link.{Linked};
-ghost use Rattle.graph.specs.Graph.{slices};
-ghost use Rattle.calls.specs.Paper.{textOutcome, pairAnswer, tableOutcome, graphOutcome, islandSlices, islandsOutcome};
+ghost use Rattle.held.specs.Kept.{Keeps, Kept, KeptAll};
+ghost use Rattle.graph.specs.Graph.{slices, ListRoom, Graph, OfTrees};
+ghost use Rattle.graph.specs.Copies.{choiceOf};
+ghost use Rattle.calls.specs.Paper.{textOutcome, pairAnswer, tableOutcome, graphOutcome, firstSlices, firstsOutcome, islandSlices, islandsOutcome};
 ghost use Rattle.calls.specs.Cuts.{CutRoom, cutText};
 ghost use Rattle.calls.specs.Paired.{Answers};
 ghost use Rattle.calls.specs.Tabled.{textSlices, TableRoom, TableWritten};
@@ -194,10 +197,29 @@ pub enum GraphAnswer {
     Refused(Refusal),
 }
 
-// The pairs of trees of s that are so linked, i and then j of each, and the neighbour count of each tree.
-fn list_linked(s: &[u8], pairs: &mut [u16], counts: &mut [u16], by: Link) -> GraphAnswer
+// Lists the pairs of the table's trees that are one interchange apart, with copies kept apart and the first positions noted in
+// memory of its own; returns the number of pairs.
+fn list_interchanges(pairs: &mut [u16], counts: &mut [u16], table: Table) -> usize
+    requires { ⌜ KeptAll table × ListRoom (slices (now pairs) (now counts)) ⌝ }
     ensures { λ r. ⌜
-        GraphBy (Linked by) (now (s .entry)) (slices (now (pairs .entry)) (now (counts .entry)))
+        OfTrees table (λ ts. Graph (length ts) (At OneInterchange ts) (slices (now (pairs .entry)) (now (counts .entry)))
+        (slices (now (pairs .exit)) (now (counts .exit))) r) ⌝ }
+{
+    let mut firsts = [0u16; Table::MAX_TREES];
+    graph::list_pairs(
+        pairs,
+        counts,
+        &mut firsts,
+        table,
+        Link::Interchange,
+        Copies::KeptApart,
+    )
+}
+
+// Interchange call: the pairs that are one interchange apart, i and then j of each, and the neighbour count of each tree.
+pub fn interchange_call(s: &[u8], pairs: &mut [u16], counts: &mut [u16]) -> GraphAnswer
+    ensures { λ r. ⌜
+        InterchangeCall (now (s .entry)) (slices (now (pairs .entry)) (now (counts .entry)))
         (graphOutcome r (now (pairs .exit)) (now (counts .exit))) ⌝ }
 {
     let counts_fit = enough(Table::MAX_TREES, counts.len(), true);
@@ -207,49 +229,73 @@ fn list_linked(s: &[u8], pairs: &mut [u16], counts: &mut [u16], by: Link) -> Gra
         Step::Refused(x) => GraphAnswer::Refused(x),
         Step::Next(_, count) => GraphAnswer::Listed(
             count,
-            graph::list_pairs(pairs, counts, read.table, by),
+            list_interchanges(pairs, counts, read.table),
         ),
     }
 }
 
-// Graph call: the pairs that are one move apart.
-pub fn graph_call(s: &[u8], pairs: &mut [u16], counts: &mut [u16]) -> GraphAnswer
-    ensures { λ r. ⌜
-        GraphCall (now (s .entry)) (slices (now (pairs .entry)) (now (counts .entry)))
-        (graphOutcome r (now (pairs .exit)) (now (counts .exit))) ⌝ }
-{
-    list_linked(s, pairs, counts, Link::Move)
-}
-
-// Interchange call: the pairs that are one interchange apart.
-pub fn interchange_call(s: &[u8], pairs: &mut [u16], counts: &mut [u16]) -> GraphAnswer
-    ensures { λ r. ⌜
-        InterchangeCall (now (s .entry)) (slices (now (pairs .entry)) (now (counts .entry)))
-        (graphOutcome r (now (pairs .exit)) (now (counts .exit))) ⌝ }
-{
-    list_linked(s, pairs, counts, Link::Interchange)
-}
-
-// Islands call: the graph call's pairs and counts, and for each tree the number of its island.
-pub fn islands_call(
+// Graph call with a stated choice: the pairs that are one move apart, with copies merged or kept apart, and for every tree its
+// neighbour count and the first position of its topology.
+pub fn graph_call_choosing(
     s: &[u8],
+    copies: Copies,
     pairs: &mut [u16],
     counts: &mut [u16],
-    islands: &mut [u16],
+    firsts: &mut [u16],
 ) -> GraphAnswer
     ensures { λ r. ⌜
-        IslandsCall (now (s .entry)) (islandSlices (now (pairs .entry)) (now (counts .entry)) (now (islands .entry)))
-        (islandsOutcome r (now (pairs .exit)) (now (counts .exit)) (now (islands .exit))) ⌝ }
+        ChoosingCall (choiceOf copies) (now (s .entry)) (firstSlices (now (pairs .entry)) (now (counts .entry)) (now (firsts .entry)))
+        (firstsOutcome r (now (pairs .exit)) (now (counts .exit)) (now (firsts .exit))) ⌝ }
 {
-    let islands_fit = enough(Table::MAX_TREES, islands.len(), true);
-    let counts_fit = enough(Table::MAX_TREES, counts.len(), islands_fit);
+    let firsts_fit = enough(Table::MAX_TREES, firsts.len(), true);
+    let counts_fit = enough(Table::MAX_TREES, counts.len(), firsts_fit);
     let read = reading::read_lent_table(s, enough(Table::PAIR_NUMBERS, pairs.len(), counts_fit));
     let step = read.step;
     match step {
         Step::Refused(x) => GraphAnswer::Refused(x),
         Step::Next(_, count) => GraphAnswer::Listed(
             count,
-            graph::list_islands(pairs, counts, islands, read.table),
+            graph::list_pairs(pairs, counts, firsts, read.table, Link::Move, copies),
+        ),
+    }
+}
+
+// Graph call: copies are merged.
+pub fn graph_call(
+    s: &[u8],
+    pairs: &mut [u16],
+    counts: &mut [u16],
+    firsts: &mut [u16],
+) -> GraphAnswer
+    ensures { λ r. ⌜
+        GraphCall (now (s .entry)) (firstSlices (now (pairs .entry)) (now (counts .entry)) (now (firsts .entry)))
+        (firstsOutcome r (now (pairs .exit)) (now (counts .exit)) (now (firsts .exit))) ⌝ }
+{
+    graph_call_choosing(s, Copies::Merged, pairs, counts, firsts)
+}
+
+// Islands call: what the graph call gives, and for each tree the number of its island.
+pub fn islands_call(
+    s: &[u8],
+    pairs: &mut [u16],
+    counts: &mut [u16],
+    firsts: &mut [u16],
+    islands: &mut [u16],
+) -> GraphAnswer
+    ensures { λ r. ⌜
+        IslandsCall (now (s .entry)) (islandSlices (now (pairs .entry)) (now (counts .entry)) (now (firsts .entry)) (now (islands .entry)))
+        (islandsOutcome r (now (pairs .exit)) (now (counts .exit)) (now (firsts .exit)) (now (islands .exit))) ⌝ }
+{
+    let islands_fit = enough(Table::MAX_TREES, islands.len(), true);
+    let firsts_fit = enough(Table::MAX_TREES, firsts.len(), islands_fit);
+    let counts_fit = enough(Table::MAX_TREES, counts.len(), firsts_fit);
+    let read = reading::read_lent_table(s, enough(Table::PAIR_NUMBERS, pairs.len(), counts_fit));
+    let step = read.step;
+    match step {
+        Step::Refused(x) => GraphAnswer::Refused(x),
+        Step::Next(_, count) => GraphAnswer::Listed(
+            count,
+            graph::list_islands(pairs, counts, firsts, islands, read.table),
         ),
     }
 }

@@ -33,3 +33,8 @@ shows-more L links k i j v few inside fits told shows a b h l lt = go (ℕ-discr
         let column : b ≡ j = omega arith in
         rw (row, column, getD-set-same links (i * 160 + j) v 0 fits) told
     go (no n) = rw (getD-set-other links (i * 160 + j) (a * 160 + b) v 0 n) (shows a b h l (omega arith))
+
+-- no two positions have their byte between one place and another
+pub shows-passed : {L : ℕ → ℕ → Type 0} (links : List ℕ) {k place place′ : ℕ} → ((i j : ℕ) → i < j → j < k → i * 160 + j < place′ → i * 160 + j < place)
+    → ShowsTo place links k L → ShowsTo place′ links k L
+shows-passed links f shows i j h l lt = shows i j h l (f i j h l lt)

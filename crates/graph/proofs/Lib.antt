@@ -1,4 +1,5 @@
 pub mod Bytes
+pub mod Linked
 pub mod Listed
 pub mod Stores
 pub mod Turns

@@ -1,6 +1,6 @@
 -- Numbers of islands in lent memory: some in place of others, and one pair more.
 -- Assumes nothing.
-use mathlib.Core.Path.{_≡_, refl, sym, ap, ap₂, subst, _∙_}
+use mathlib.Core.Path.{_≡_, refl, sym, ap, ap₂, subst, subst₂, _∙_}
 use mathlib.Core.List.{List, [], _∷_, _++_, map, map-append}
 use Prim.Native.Nat.{ℕ, _+_, _*_, _≤_, _<_, min, max}
 use native.Mathlib.Decide.{ℕ-discrete}
@@ -9,16 +9,19 @@ use native.Mathlib.Omega.{arith}
 use borrow.Author.Tests.{eq-eqb, ne-eqb}
 use lib.ListN.{length, take, drop, getD, set, take-append-drop}
 use lib.Seq.{take-suc, take-length, length-take-le, getD-take}
-use Rattle.meaning.specs.Lists.{positions}
 use Rattle.meaning.specs.Listing.{Pair}
 use Rattle.meaning.specs.Answer.{GraphMemory}
-use Rattle.meaning.proofs.Islands.{listing-within, islands-found}
-use Rattle.meaning.specs.Islands.{renumbered, unite, uniteAll, islandsOf}
+use Rattle.meaning.specs.Move.{Apart}
+use Rattle.meaning.specs.Islands.{renumbered, unite, uniteAll}
+use Rattle.meaning.specs.Copies.{firstsOf}
+use Rattle.meaning.proofs.Islands.{listing-within}
+use Rattle.meaning.proofs.MergedIslands.{merged-found}
 use Rattle.lent.specs.Runs.{Wrote}
-use Rattle.lent.proofs.Runs.{sets-start, wrote-one, wrote-more, written-first, same-behind, written-over}
+use Rattle.lent.proofs.Runs.{sets-start, wrote-one, wrote-more, wrote-length, written-first, same-behind, written-over}
 use Rattle.held.specs.declared.Table.{Table}
 use Rattle.pairs.specs.declared.Link.the-variants.{Move}
-use Rattle.graph.specs.Graph.{GraphWritten}
+use Rattle.graph.specs.Copies.{GraphWritten}
+use Rattle.graph.specs.declared.copies.Copies.the-variants.{Merged}
 use Rattle.graph.specs.Listed.{PairsListed}
 use Rattle.graph.specs.Islands.{IslandsRoom, IslandGraphRoom, IslandsWritten}
 use Rattle.graph.proofs.Listed.{pair-first, pair-second, graph-pairs}
@@ -30,11 +33,10 @@ renumber-more f {out} {out′} i h w =
     let more : map f (take (i + 1) out) ≡ map f (take i out) ++ (f (getD out i 0) ∷ []) = rw (add-one, take-suc out i 0 h) (map-append f (take i out) (getD out i 0 ∷ [])) in
     rw (more, same-behind w (omega arith) 0 i (omega arith)) (wrote-more w (wrote-one out′ i (f (getD out i 0))))
 
-pub position-more : {out out′ : List ℕ} (i : ℕ) → Wrote (positions i) out out′ 0 i → Wrote (positions (i + 1)) out (set out′ i i) 0 (i + 1)
-unfolding positions
-position-more {out} {out′} i w =
-    let more : positions (i + 1) ≡ positions i ++ (i ∷ []) = rw add-one in
-    rw more (wrote-more w (wrote-one out′ i i))
+pub copy-more : (xs : List ℕ) {out out′ : List ℕ} (i : ℕ) → i < length xs → Wrote (take i xs) out out′ 0 i → Wrote (take (i + 1) xs) out (set out′ i (getD xs i 0)) 0 (i + 1)
+copy-more xs {out′} i h w =
+    let more : take (i + 1) xs ≡ take i xs ++ (getD xs i 0 ∷ []) = rw (add-one, take-suc xs i 0 h) in
+    rw more (wrote-more w (wrote-one out′ i (getD xs i 0)))
 
 -- ---- uniting the islands of i and j, whose numbers are among the first n of xs
 kept : (a x : ℕ) → renumbered a a x ≡ x
@@ -85,47 +87,52 @@ unite-snoc ms (q ∷ ps) p = unite-snoc (unite ms (q .0) (q .1)) ps p
 unite-next : (ms : List ℕ) (ps : List Pair) (k : ℕ) → k < length ps → uniteAll ms (take (k + 1) ps) ≡ unite (uniteAll ms (take k ps)) (getD ps k (0, 0) .0) (getD ps k (0, 0) .1)
 unite-next ms ps k h = rw (add-one, take-suc ps k (0, 0) h) (unite-snoc ms (take k ps) (getD ps k (0, 0)))
 
--- the islands of the first k pairs are united
-abbrev pub UnitedTo : ℕ → List ℕ → ℕ → List ℕ → List ℕ → ℕ → Type 0
-UnitedTo n pairs m out out′ k = (ps : List Pair) → PairsListed pairs m ps → Wrote (uniteAll (positions n) (take k ps)) out out′ 0 n
+-- the islands of the first k pairs are united, where n positions begin with the numbers `ms`
+abbrev pub UnitedTo : List ℕ → ℕ → List ℕ → ℕ → List ℕ → List ℕ → ℕ → Type 0
+UnitedTo ms n pairs m out out′ k = (ps : List Pair) → PairsListed pairs m ps → Wrote (uniteAll ms (take k ps)) out out′ 0 n
 
-module _ {n m k : ℕ} {pairs out o₁ : List ℕ} (fits : n ≤ length out) (w : UnitedTo n pairs m out o₁ k) where
+module _ (ms : List ℕ) {n m k : ℕ} {pairs out o₁ : List ℕ} (fits : n ≤ length out) (w : UnitedTo ms n pairs m out o₁ k) where
   -- those of the next are
-  pub united-more : k < m → {o₂ : List ℕ} → Wrote (unite (take n o₁) (getD pairs (2 * k) 0) (getD pairs (2 * k + 1) 0)) o₁ o₂ 0 n → UnitedTo n pairs m out o₂ (k + 1)
+  pub united-more : k < m → {o₂ : List ℕ} → Wrote (unite (take n o₁) (getD pairs (2 * k) 0) (getD pairs (2 * k + 1) 0)) o₁ o₂ 0 n → UnitedTo ms n pairs m out o₂ (k + 1)
   united-more h {o₂} u ps L =
-      let now : unite (take n o₁) (getD pairs (2 * k) 0) (getD pairs (2 * k + 1) 0) ≡ uniteAll (positions n) (take (k + 1) ps) =
+      let now : unite (take n o₁) (getD pairs (2 * k) 0) (getD pairs (2 * k + 1) 0) ≡ uniteAll ms (take (k + 1) ps) =
       ap (λ (xs : List ℕ). unite xs (getD pairs (2 * k) 0) (getD pairs (2 * k + 1) 0)) (written-first (w ps L) fits)
-      ∙ ap₂ (unite (uniteAll (positions n) (take k ps))) (pair-first L k h) (pair-second L k h) ∙ sym (unite-next (positions n) ps k (omega (arith, L .many))) in
+      ∙ ap₂ (unite (uniteAll ms (take k ps))) (pair-first L k h) (pair-second L k h) ∙ sym (unite-next ms ps k (omega (arith, L .many))) in
       subst (λ (xs : List ℕ). Wrote xs out o₂ 0 n) now (written-over (w ps L) fits (omega (arith, u .behind)) u)
 
-  -- all are, over what was lent before the positions were written
-  pub united-all : k ≤ m → m ≤ k → {lent : List ℕ} → n ≤ length lent → Wrote (positions n) lent out 0 n → (ps : List Pair) → PairsListed pairs m ps → Wrote (islandsOf n ps) lent o₁ 0 n
+  -- all are, over what was lent before the numbers were copied
+  pub united-all : k ≤ m → m ≤ k → {lent : List ℕ} → n ≤ length lent → Wrote ms lent out 0 n → (ps : List Pair) → PairsListed pairs m ps → Wrote (uniteAll ms ps) lent o₁ 0 n
   united-all h l {lent} room first ps L =
       let all : k ≡ length ps = omega (arith, L .many) in
       let done = written-over first room (omega (arith, w ps L .behind)) (w ps L) in
-      subst (λ (qs : List Pair). Wrote (uniteAll (positions n) qs) lent o₁ 0 n) (ap (λ (j : ℕ). take j ps) all ∙ take-length ps) done
+      subst (λ (qs : List Pair). Wrote (uniteAll ms qs) lent o₁ 0 n) (ap (λ (j : ℕ). take j ps) all ∙ take-length ps) done
 
 -- ---- the islands of a table's graph
-module _ {table : Table} {memory memory′ : GraphMemory} {islands : List ℕ} {m : ℕ} (room : IslandGraphRoom table memory islands) (w : GraphWritten Move table memory memory′ m) where
-  pub islands-room : IslandsRoom islands (table .len) (memory′ .pairs) m
+module _ {table : Table} {memory memory′ : GraphMemory} {firsts firsts′ islands : List ℕ} {m : ℕ}
+    (room : IslandGraphRoom table memory firsts islands) (w : GraphWritten Move Merged table memory memory′ firsts firsts′ m) where
+  pub islands-room : IslandsRoom islands firsts′ (table .len) (memory′ .pairs) m
   islands-room =
       let k = room .graph .kept in
       let g = w (k .trees) (k .keeps) in
       record {
         few = omega (arith, k .keeps .count, k .keeps .few);
         room = omega (arith, k .keeps .count, k .keeps .few, room .islands-room);
-        linked = g .linked;
-        listed = graph-pairs (room .graph .room) (k .keeps .few) g;
-        within = rw (k .keeps .count) (listing-within (g .listing));
+        lent = omega (arith, k .keeps .count, k .keeps .few, room .graph .firsts-room, wrote-length (g .in-firsts));
+        linked = g .graph .linked;
+        listed = graph-pairs (room .graph .room) (k .keeps .few) (g .graph);
+        within = rw (k .keeps .count) (listing-within (g .graph .listing));
       }
 
-  pub islands-written : {islands′ : List ℕ} → ((ps : List Pair) → PairsListed (memory′ .pairs) m ps → Wrote (islandsOf (table .len) ps) islands islands′ 0 (table .len))
-      → IslandsWritten table memory memory′ islands islands′ m
-  islands-written each ts h =
+  pub islands-written : {islands′ : List ℕ} → ((ps : List Pair) → PairsListed (memory′ .pairs) m ps → Wrote (uniteAll (take (table .len) firsts′) ps) islands islands′ 0 (table .len))
+      → IslandsWritten table memory memory′ firsts firsts′ islands islands′ m
+  islands-written {islands′} each ts h =
       let g = w ts h in
+      let ps = g .graph .linked in
+      let noted : take (table .len) firsts′ ≡ firstsOf ts =
+      ap (λ (k : ℕ). take k firsts′) (h .count) ∙ written-first (g .in-firsts) (omega (arith, h .few, room .graph .firsts-room)) in
       record {
-        graph = g;
-        numbers = islandsOf (length ts) (g .linked);
-        found = islands-found (length ts) (g .linked) (listing-within (g .listing));
-        in-islands = rw (h .count) at (each (g .linked) (graph-pairs (room .graph .room) (h .few) g));
+        merged = g;
+        numbers = uniteAll (firstsOf ts) ps;
+        found = merged-found ts Apart (g .graph .listing);
+        in-islands = subst₂ (λ (xs : List ℕ) (k : ℕ). Wrote (uniteAll xs ps) islands islands′ 0 k) noted (h .count) (each ps (graph-pairs (room .graph .room) (h .few) (g .graph)));
       }

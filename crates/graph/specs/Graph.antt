@@ -10,13 +10,11 @@ use lib.ListN.{length, getD, set}
 use Rattle.meaning.specs.Limits.{maxTrees, pairNumbers}
 use Rattle.meaning.specs.Lists.{more}
 use Rattle.meaning.specs.Tree.{Tree as Topology}
-use Rattle.meaning.specs.Listing.{Pair, Listing, At, counts, flat}
+use Rattle.meaning.specs.Listing.{Pair, Listing, counts, flat}
 use Rattle.meaning.specs.Answer.{GraphMemory}
 use Rattle.lent.specs.Runs.{Wrote}
-use Rattle.held.specs.Kept.{KeepsAll, KeptAll}
+use Rattle.held.specs.Kept.{KeepsAll}
 use Rattle.held.specs.declared.Table.{Table}
-use Rattle.pairs.specs.Link.{Linked}
-use Rattle.pairs.specs.declared.Link.{Link}
 
 -- ---- links
 -- a byte for each two positions of a table
@@ -90,16 +88,3 @@ pub record Graph (k : ℕ) (L : ℕ → ℕ → Type 0) (memory memory′ : Grap
 -- P is so of whatever trees the table keeps
 abbrev pub OfTrees : Table → (List Topology → Type 0) → Type 0
 OfTrees table P = (ts : List Topology) → KeepsAll table ts → P ts
-
--- the bytes show which trees are so linked
-abbrev pub TreesLinked : Link → Table → List ℕ → Type 0
-TreesLinked by table links = OfTrees table (λ ts. Shows links (length ts) (At (Linked by) ts))
-
--- the table keeps some trees, and there is room for the pairs and the counts of as many as a table can have
-pub record GraphRoom (table : Table) (memory : GraphMemory) : Type 0 where
-  pub kept : KeptAll table
-  pub room : ListRoom memory
-
--- the graph of the trees was written
-abbrev pub GraphWritten : Link → Table → GraphMemory → GraphMemory → ℕ → Type 0
-GraphWritten by table memory memory′ r = OfTrees table (λ ts. Graph (length ts) (At (Linked by) ts) memory memory′ r)

@@ -4,35 +4,40 @@ use mathlib.Core.List.{List}
 use Prim.Native.Nat.{ℕ, _≤_}
 use lib.ListN.{length}
 use Rattle.meaning.specs.Limits.{maxTrees}
-use Rattle.meaning.specs.Move.{Apart}
-use Rattle.meaning.specs.Listing.{Pair, At}
+use Rattle.meaning.specs.Tree.{Tree as Topology}
+use Rattle.meaning.specs.Listing.{Pair}
 use Rattle.meaning.specs.Answer.{GraphMemory}
-use Rattle.meaning.specs.Islands.{Joined, Islands, Within}
+use Rattle.meaning.specs.Islands.{Within}
+use Rattle.meaning.specs.Copies.{MergedIslands}
 use Rattle.lent.specs.Runs.{Wrote}
 use Rattle.held.specs.declared.Table.{Table}
-use Rattle.graph.specs.Graph.{Graph, OfTrees, GraphRoom}
+use Rattle.pairs.specs.declared.Link.the-variants.{Move}
+use Rattle.graph.specs.Graph.{OfTrees}
+use Rattle.graph.specs.Copies.{GraphRoom, FirstsGraph}
 use Rattle.graph.specs.Listed.{PairsListed}
+use Rattle.graph.specs.declared.copies.Copies.the-variants.{Merged}
 
--- there is room for the numbers of n positions, and `pairs` begins with m pairs of them
-pub record IslandsRoom (numbers : List ℕ) (n : ℕ) (pairs : List ℕ) (m : ℕ) : Type 0 where
+-- there is room for the numbers of n positions, `firsts` begins with theirs, and `pairs` with m pairs of them
+pub record IslandsRoom (numbers firsts : List ℕ) (n : ℕ) (pairs : List ℕ) (m : ℕ) : Type 0 where
   pub few : n ≤ maxTrees
   pub room : n ≤ length numbers
+  pub lent : n ≤ length firsts
   pub linked : List Pair
   pub listed : PairsListed pairs m linked
   pub within : Within n linked
 
--- the graph of k positions that L links was written, and the numbers of its islands
-pub record IslandGraph (k : ℕ) (L : ℕ → ℕ → Type 0) (memory memory′ : GraphMemory) (islands islands′ : List ℕ) (r : ℕ) : Type 0 where
-  pub graph : Graph k L memory memory′ r
+-- the merged graph of the trees ts was written, and the numbers of its islands
+pub record IslandGraph (ts : List Topology) (memory memory′ : GraphMemory) (firsts firsts′ islands islands′ : List ℕ) (r : ℕ) : Type 0 where
+  pub merged : FirstsGraph Move Merged ts memory memory′ firsts firsts′ r
   pub numbers : List ℕ
-  pub found : Islands k (Joined (graph .linked)) numbers
-  pub in-islands : Wrote numbers islands islands′ 0 k
+  pub found : MergedIslands ts (merged .graph .linked) numbers
+  pub in-islands : Wrote numbers islands islands′ 0 (length ts)
 
 -- there is room for both, of as many trees as a table can have
-pub record IslandGraphRoom (table : Table) (memory : GraphMemory) (islands : List ℕ) : Type 0 where
-  pub graph : GraphRoom table memory
+pub record IslandGraphRoom (table : Table) (memory : GraphMemory) (firsts islands : List ℕ) : Type 0 where
+  pub graph : GraphRoom table memory firsts
   pub islands-room : maxTrees ≤ length islands
 
 -- both were written of the table's trees
-abbrev pub IslandsWritten : Table → GraphMemory → GraphMemory → List ℕ → List ℕ → ℕ → Type 0
-IslandsWritten table memory memory′ islands islands′ r = OfTrees table (λ ts. IslandGraph (length ts) (At Apart ts) memory memory′ islands islands′ r)
+abbrev pub IslandsWritten : Table → GraphMemory → GraphMemory → List ℕ → List ℕ → List ℕ → List ℕ → ℕ → Type 0
+IslandsWritten table memory memory′ firsts firsts′ islands islands′ r = OfTrees table (λ ts. IslandGraph ts memory memory′ firsts firsts′ islands islands′ r)

@@ -1,3 +1,4 @@
+pub mod Copies
 pub mod Graph
 pub mod Islands
 pub mod Listed

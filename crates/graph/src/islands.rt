@@ -1,4 +1,5 @@
-// Islands: positions that chains of listed pairs join. The number of each is the smallest position in it.
+// Islands: positions that chains of listed pairs join, and their copies. The number of each is the smallest position in it.
+use super::Copies;
 use super::list_pairs;
 use held::Table;
 use pairs::Link;
@@ -6,10 +7,8 @@ ghost use mathlib.Core.Path.{_≡_};
 ghost use mathlib.Core.List.{List, map};
 ghost use Prim.Native.Nat.{_≤_, _<_};
 ghost use lib.ListN.{length, take};
-ghost use Rattle.meaning.specs.Limits.{maxTrees};
-ghost use Rattle.meaning.specs.Lists.{positions};
 ghost use Rattle.meaning.specs.Listing.{Pair};
-ghost use Rattle.meaning.specs.Islands.{renumbered, unite, islandsOf};
+ghost use Rattle.meaning.specs.Islands.{renumbered, unite, uniteAll};
 ghost use Rattle.lent.specs.Runs.{Wrote};
 ghost use Rattle.graph.specs.Graph.{slices};
 ghost use Rattle.graph.specs.Listed.{PairsListed};
@@ -46,42 +45,46 @@ fn unite(numbers: &mut [u16], n: usize, i: usize, j: usize)
     }
 }
 
-// Writes each of n positions, in order.
-fn number_each(numbers: &mut [u16], n: usize)
-    requires { ⌜ (n ≤ length (now numbers)) × (n ≤ maxTrees) ⌝ }
-    ensures { λ _. ⌜ Wrote (positions n) (now (numbers .entry)) (now (numbers .exit)) 0 n ⌝ }
+// Copies the first n of the firsts.
+fn copy_firsts(numbers: &mut [u16], firsts: &[u16], n: usize)
+    requires { ⌜ (n ≤ length (now numbers)) × (n ≤ length (now firsts)) ⌝ }
+    ensures { λ _. ⌜ Wrote (take n (now (firsts .entry))) (now (numbers .entry)) (now (numbers .exit)) 0 n ⌝ }
 {
     for i in 0..n {
-        numbers[i] = i as u16;
+        numbers[i] = firsts[i];
     }
 }
 
-// Writes the number of the island of each of n positions; `pairs` begins with i and j of each of m listed pairs.
-fn number_islands(numbers: &mut [u16], n: usize, pairs: &[u16], m: usize)
-    requires { ⌜ IslandsRoom (now numbers) n (now pairs) m ⌝ }
+// Writes the number of the island of each of n positions. A position begins with the number of its first; `pairs` begins with i
+// and j of each of m listed pairs.
+fn number_islands(numbers: &mut [u16], firsts: &[u16], n: usize, pairs: &[u16], m: usize)
+    requires { ⌜ IslandsRoom (now numbers) (now firsts) n (now pairs) m ⌝ }
     ensures { λ _. ⌜
-        ((ps : List Pair) → PairsListed (now (pairs .entry)) m ps → Wrote (islandsOf n ps) (now (numbers .entry)) (now (numbers .exit)) 0 n) ⌝ }
+        ((ps : List Pair) → PairsListed (now (pairs .entry)) m ps
+        → Wrote (uniteAll (take n (now (firsts .entry))) ps) (now (numbers .entry)) (now (numbers .exit)) 0 n) ⌝ }
 {
-    number_each(numbers, n);
+    copy_firsts(numbers, firsts, n);
     for k in 0..m {
         unite(numbers, n, pairs[2 * k] as usize, pairs[2 * k + 1] as usize);
     }
 }
 
-// Lists the pairs of trees of the table that are one move apart, and the neighbour counts of the trees, and writes the number of
-// each tree's island; returns the number of pairs.
+// Lists the pairs of first positions of the table's trees that are one move apart, the neighbour counts and the firsts, and
+// writes the number of each tree's island; returns the number of pairs.
 pub fn list_islands(
     pairs: &mut [u16],
     counts: &mut [u16],
+    firsts: &mut [u16],
     islands: &mut [u16],
     table: Table,
 ) -> usize
-    requires { ⌜ IslandGraphRoom table (slices (now pairs) (now counts)) (now islands) ⌝ }
+    requires { ⌜ IslandGraphRoom table (slices (now pairs) (now counts)) (now firsts) (now islands) ⌝ }
     ensures { λ r. ⌜
         IslandsWritten table (slices (now (pairs .entry)) (now (counts .entry)))
-        (slices (now (pairs .exit)) (now (counts .exit))) (now (islands .entry)) (now (islands .exit)) r ⌝ }
+        (slices (now (pairs .exit)) (now (counts .exit))) (now (firsts .entry)) (now (firsts .exit))
+        (now (islands .entry)) (now (islands .exit)) r ⌝ }
 {
-    let m = list_pairs(pairs, counts, table, Link::Move);
-    number_islands(islands, table.len, pairs, m);
+    let m = list_pairs(pairs, counts, firsts, table, Link::Move, Copies::Merged);
+    number_islands(islands, firsts, table.len, pairs, m);
     m
 }

@@ -1,16 +1,16 @@
 // The graph of a table: which of its positions are linked, listing and counting the linked positions, and its islands.
+pub mod copies;
 pub mod islands;
 
+pub use copies::Copies;
 use held::Table;
 pub use islands::list_islands;
 use pairs::Link;
-ghost use mathlib.Core.Path.{_≡_};
 ghost use Prim.Native.Nat.{_≤_, _<_};
-ghost use lib.ListN.{length};
 ghost use Rattle.meaning.specs.Limits.{maxTrees};
 ghost use Rattle.meaning.specs.Loops.{row};
-ghost use Rattle.held.specs.Kept.{KeptAll};
-ghost use Rattle.graph.specs.Graph.{linkBytes, LinkedIn, linked?, slices, PairRoom, PairAdded, PairsRoom, Listed, ListRoom, Graph, TreesLinked, GraphRoom, GraphWritten};
+ghost use Rattle.graph.specs.Graph.{LinkedIn, linked?, slices, PairRoom, PairAdded, PairsRoom, Listed, ListRoom, Graph};
+ghost use Rattle.graph.specs.Copies.{GraphRoom, GraphWritten};
 
 // A byte for each two positions, that of row i and column j at i * MAX_TREES + j: 1 where i and j are linked.
 pub struct Links {}
@@ -77,28 +77,23 @@ pub fn list_links(
     m
 }
 
-// Links the positions of the table's trees that are one move, or one interchange, apart.
-fn link_trees(links: &mut [u8; Links::SIZE], table: Table, by: Link)
-    requires { ⌜ KeptAll table × (length (now links) ≡ linkBytes) ⌝ }
-    ensures { λ _. ⌜ TreesLinked by table (now (links .exit)) ⌝ }
-{
-    let trees = table.len;
-    for i in 0..trees {
-        for j in i + 1..trees {
-            let linked = pairs::linked(by, table.trees[i], table.trees[j]);
-            links[i * Table::MAX_TREES + j] = linked as u8;
-        }
-    }
-}
-
-// Lists the pairs of trees of the table that are so linked, and the neighbour counts of the trees; returns the number of pairs.
-pub fn list_pairs(pairs: &mut [u16], counts: &mut [u16], table: Table, by: Link) -> usize
-    requires { ⌜ GraphRoom table (slices (now pairs) (now counts)) ⌝ }
+// Lists the pairs of positions of the table's trees that are so linked, with copies merged or kept apart, and the neighbour
+// counts, and notes the first position of each topology; returns the number of pairs.
+pub fn list_pairs(
+    pairs: &mut [u16],
+    counts: &mut [u16],
+    firsts: &mut [u16],
+    table: Table,
+    by: Link,
+    copies: Copies,
+) -> usize
+    requires { ⌜ GraphRoom table (slices (now pairs) (now counts)) (now firsts) ⌝ }
     ensures { λ r. ⌜
-        GraphWritten by table (slices (now (pairs .entry)) (now (counts .entry)))
-        (slices (now (pairs .exit)) (now (counts .exit))) r ⌝ }
+        GraphWritten by copies table (slices (now (pairs .entry)) (now (counts .entry)))
+        (slices (now (pairs .exit)) (now (counts .exit))) (now (firsts .entry)) (now (firsts .exit)) r ⌝ }
 {
+    held::note_firsts(firsts, table);
     let mut links = [0u8; Links::SIZE];
-    link_trees(&mut links, table, by);
+    copies::link_positions(&mut links, table, firsts, by, copies);
     list_links(pairs, counts, &links, table.len)
 }

@@ -1,87 +1,33 @@
--- Copies of a table's trees: two positions have one first exactly when their trees have one topology; equal records keep one topology.
+-- Copies of a table's trees in memory: equal records keep one topology, and the first copy is found by comparing from the start on.
 -- Assumes nothing.
-use mathlib.Core.Path.{_≡_, refl, sym, ap, subst, _∙_}
+use mathlib.Core.Path.{_≡_, sym, ap, _∙_}
 use mathlib.Core.Logic.{_↔_}
-use mathlib.Core.Bool.{Bool, true, false, cond}
-use mathlib.Core.List.{List, [], _∷_}
-use Prim.Native.Nat.{ℕ, zero, suc, _+_, _≤_, _<_}
+use mathlib.Core.Bool.{Bool, true, false}
+use mathlib.Core.List.{List}
+use Prim.Native.Nat.{ℕ, _+_, _≤_, _<_}
 use native.Mathlib.Nat.{zero-add}
 use native.Mathlib.Omega.{arith}
 use native.Mathlib.Decide.{ℕ-discrete}
-use lib.Dec.{T, eqb, eqb→eq, eqb-refl}
-use lib.ListN.{length, getD}
+use lib.Dec.{T}
+use lib.ListN.{length}
 use lib.Seq.{ext-getD}
 use Rattle.meaning.specs.Limits.{maxNodes}
 use Rattle.meaning.specs.Tree.{Tree as Topology, leaf, SameTopology, canon}
-use Rattle.meaning.specs.Lists.{count, positions, bit}
-use Rattle.meaning.specs.Decide.{eqTree, sameTopology?}
-use Rattle.meaning.specs.Listing.{treeOf, copyOf, copies}
-use Rattle.meaning.proofs.Logic.{cases}
-use Rattle.meaning.proofs.Sums.{count-map, count-positions, upto-same, bit-iff}
+use Rattle.meaning.specs.Decide.{sameTopology?}
+use Rattle.meaning.specs.Listing.{treeOf, copyOf}
+use Rattle.meaning.specs.Copies.{firstOf}
 use Rattle.meaning.proofs.Canon.{topology-iff-canon}
 use Rattle.meaning.proofs.Unlinked.{copy-canon, copy-iff}
+use Rattle.meaning.proofs.Copies.{first-is}
 use Rattle.lent.specs.Runs.{SameRun, Says}
 use Rattle.lent.proofs.Says.{says}
 use Rattle.held.specs.Held.{hold}
 use Rattle.held.specs.Kept.{Keeps, KeepsAll, KeptAll, heldAt}
-use Rattle.held.specs.Copies.{firstPassing, firstOf, firstsOf}
 use Rattle.held.specs.declared.Tree.{Tree}
 use Rattle.held.specs.declared.Table.{Table}
 use Rattle.held.proofs.Laws.{unique}
 use Rattle.held.proofs.Kept.{keeps-long, keeps-holds, keeps-good}
 
-module _ {A : Type 0} (test : A → Bool) (d : A) where
-  -- the first that passes is the one that passes and has none before it
-  pub first-is : (xs : List A) (i : ℕ) → i < length xs → T (test (getD xs i d)) → ((j : ℕ) → j < i → ¬ T (test (getD xs j d))) → firstPassing test xs ≡ i
-  first-is [] i h t none = absurd (omega arith)
-  first-is (x ∷ xs) zero h t none = cases (λ b. T b → cond b 0 (suc (firstPassing test xs)) ≡ 0) (test x) (λ _ _. refl) (λ _ f. absurd f) t
-  first-is (x ∷ xs) (suc i) h t none =
-      cases (λ b. ¬ T b → cond b 0 (suc (firstPassing test xs)) ≡ suc i) (test x) (λ _ n. absurd (n tt))
-      (λ _ _. ap suc (first-is xs i (omega arith) t (λ j l. none (suc j) (omega arith)))) (none 0 (omega arith))
-
-  -- where some member passes, the first does
-  first-passes : (xs : List A) (i : ℕ) → i < length xs → T (test (getD xs i d)) → (firstPassing test xs ≤ i) × T (test (getD xs (firstPassing test xs) d))
-  first-passes [] i h t = absurd (omega arith)
-  first-passes (x ∷ xs) zero h t =
-      cases (λ b. test x ≡ b → (cond b 0 (suc (firstPassing test xs)) ≤ 0) × T (test (getD (x ∷ xs) (cond b 0 (suc (firstPassing test xs))) d))) (test x)
-      (λ _ _. (omega arith, t)) (λ _ e. absurd (subst T e t)) refl
-  first-passes (x ∷ xs) (suc i) h t =
-      let rest = first-passes xs i (omega arith) t in
-      cases (λ b. test x ≡ b → (cond b 0 (suc (firstPassing test xs)) ≤ suc i) × T (test (getD (x ∷ xs) (cond b 0 (suc (firstPassing test xs))) d))) (test x)
-      (λ _ e. (omega arith, subst T (sym e) tt)) (λ _ _. (omega (arith, rest .0), rest .1)) refl
-
--- ---- the firsts of a list's trees
-module _ (ts : List Topology) (i j : ℕ) (h : i < length ts) (l : j < length ts) where
-  -- a position's first is a copy, at the position or before it
-  first-copy : (x : ℕ) → x < length ts → (firstOf ts x ≤ x) × T (copyOf ts x (firstOf ts x))
-  first-copy x inside = first-passes (sameTopology? (treeOf ts x)) (leaf 0) ts x inside (copy-canon ts x x .1 refl)
-
-  -- copies have the same first, and only they
-  pub firsts-iff : T (eqb (firstOf ts j) (firstOf ts i)) ↔ T (copyOf ts i j)
-  firsts-iff = (
-    λ t.
-        let one = copy-canon ts i (firstOf ts i) .0 (first-copy i h .1) in
-        let two = copy-canon ts j (firstOf ts j) .0 (first-copy j l .1) in
-        copy-canon ts i j .1 (one ∙ ap (λ (x : ℕ). canon (treeOf ts x)) (sym (eqb→eq (firstOf ts j) (firstOf ts i) t)) ∙ sym two),
-    λ t.
-        let e = copy-canon ts i j .0 t in
-        let same : firstOf ts i ≡ firstOf ts j = ap (λ (v : Topology). firstPassing (λ u. eqTree v (canon u)) ts) e in
-        subst (λ (x : ℕ). T (eqb (firstOf ts j) x)) (sym same) (eqb-refl (firstOf ts j)),
-  )
-
-pub first-le : (ts : List Topology) (i : ℕ) → i < length ts → firstOf ts i ≤ i
-first-le ts i h = first-copy ts i i h h i h .0
-
--- so a position's copies are as many as have its first
-pub copies-firsts : (ts : List Topology) (i : ℕ) → i < length ts → count (λ y. eqb y (firstOf ts i)) (firstsOf ts) ≡ copies ts i
-copies-firsts ts i h =
-    let p : ℕ → Bool = λ j. eqb (firstOf ts j) (firstOf ts i) in
-    count-map (λ y. eqb y (firstOf ts i)) (firstOf ts) (positions (length ts))
-    ∙ count-positions p (length ts)
-    ∙ upto-same (λ j. bit (p j)) (λ j. bit (copyOf ts i j)) (length ts) (λ j l. bit-iff (p j) (copyOf ts i j) (firsts-iff ts i j h l))
-    ∙ sym (count-positions (copyOf ts i) (length ts))
-
--- ---- what records keep
 -- equal bytes are equal topologies
 module _ {a b : Tree} {t u : Topology} (k : Keeps a t) (l : Keeps b u) where
   canon-iff : (a .node ≡ b .node) ↔ (canon t ≡ canon u)

@@ -1,4 +1,3 @@
-pub mod Copies
 pub mod Held
 pub mod Kept
 pub mod Labels

@@ -11,7 +11,7 @@ ghost use Rattle.meaning.specs.Reading.{sameLabels};
 ghost use Rattle.lent.specs.Runs.{Wrote, Says};
 ghost use Rattle.held.specs.Held.{Holds, Held, Room, Noted, Marked, Cuts, HasCut, nodes, pre, hold, cutIn};
 ghost use Rattle.held.specs.Kept.{Keeps, Kept, KeepsAll, KeptAll, Adds};
-ghost use Rattle.held.specs.Copies.{firstsOf};
+ghost use Rattle.meaning.specs.Copies.{firstsOf};
 ghost use Rattle.held.specs.Labels.{labelsIn};
 
 // A tree in canonical order: equal bytes are equal topologies, and node number c + 1 is cut number c.

@@ -2,12 +2,12 @@
 -- Assumes nothing.
 use mathlib.Core.Path.{_≡_, refl, sym, subst}
 use mathlib.Core.Logic.{_↔_, _⊎_, inl, inr}
-use mathlib.Core.Bool.{Bool, true, false, cond}
+use mathlib.Core.Bool.{Bool, true, false, cond, _&&_}
 use mathlib.Core.List.{List, [], List·Memᴰ}
 use Prim.Native.Nat.{ℕ, zero, suc, _-_, _*_, _≤_, _<_}
 use native.Mathlib.Omega.{arith}
 use borrow.Author.Tests.{ltb-true}
-use lib.Dec.{T, eqb, ltb}
+use lib.Dec.{T, eqb, eqb→eq, eqb-refl, ltb}
 use lib.ListN.{length}
 use Rattle.meaning.specs.Limits.{textBytes}
 use Rattle.meaning.specs.Lists.{any}
@@ -20,17 +20,18 @@ use Rattle.meaning.specs.Grammar.{OneText, TableText}
 use Rattle.meaning.specs.Listing.{Pair, Listing, At, treeOf}
 use Rattle.meaning.specs.Loops.{pairsOf}
 use Rattle.meaning.specs.Decide.{apart?, oneInterchange?}
-use Rattle.meaning.specs.Islands.{Joined, Islands, islandsOf}
-use Rattle.meaning.specs.Answer.{Answer, accepted, refusal, Outcome, TableMemory, GraphSize, GraphMemory, IslandsMemory, textOf, onward, conclude}
-use Rattle.meaning.specs.Calls.{enough, lent, limited, answered, formSlices, formRead, hasCut, cutSlices, cutRead, together, beside, pairRead, PairCall, is-apart, not-apart, tableRead, tableSlices, tableCallRead, graphSlices, graphRead, GraphCall, GraphBy, graphOf, lists, InterchangeCall, islandsSlices, islandsRead, islandGraphOf, IslandsCall, numbers}
+use Rattle.meaning.specs.Islands.{uniteAll}
+use Rattle.meaning.specs.Copies.{firstOf, firstsOf, Choice, merged, kept-apart, LinkedBy, MergedIslands}
+use Rattle.meaning.specs.Answer.{Answer, accepted, refusal, Outcome, TableMemory, GraphSize, GraphMemory, FirstsMemory, IslandsMemory, textOf, onward, conclude}
+use Rattle.meaning.specs.Calls.{enough, lent, limited, answered, formSlices, formRead, hasCut, cutSlices, cutRead, together, beside, pairRead, PairCall, is-apart, not-apart, tableRead, tableSlices, tableCallRead, graphSlices, graphRead, graphOf, Lists, lists, InterchangeCall, firstsSlices, firstsRead, firstsGraphOf, ChoosingCall, GraphCall, islandsSlices, islandsRead, islandGraphOf, IslandsCall, numbers}
 use Rattle.meaning.specs.Sheet.{refusalLine, Printout, prints, sheet, shows-pairs, Sheet, sheetSlices, sheetGiven, SheetCall, gives}
 use Rattle.meaning.specs.IslandSheet.{islandLines, shows-islands, IslandSheet}
-use Rattle.meaning.proofs.Logic.{clash, cases}
+use Rattle.meaning.proofs.Logic.{clash, cases, T-and}
 use Rattle.meaning.proofs.Lists.{one-of, Among, among}
 use Rattle.meaning.proofs.Decide.{apart-iff}
 use Rattle.meaning.proofs.Interchanges.{oneInterchange-iff}
 use Rattle.meaning.proofs.Listing.{listing-iff, pairsOf-lists}
-use Rattle.meaning.proofs.Islands.{listing-within, islands-found}
+use Rattle.meaning.proofs.MergedIslands.{merged-found}
 use Rattle.meaning.proofs.Sound.{read-iff, read-good, read-behind}
 use Rattle.meaning.proofs.Alike.{unlike-iff, unlike-line}
 use Rattle.meaning.proofs.TableText.{good-at, table-iff, table-good}
@@ -145,7 +146,7 @@ table-tells s =
     limited-tells 0 s (at-zero tt)
     (answered-tells 0 (readTable s) (λ ts p e. (table-good s ts p e, table-iff ts s .0 (p, e))) (λ n p e. read-line s (placed-among tt (table-refused s n p e))))
 
--- the table call and the graph call
+-- the table call, and the calls that list pairs
 lent-table-tells : (b : Bool) (s : List ℕ) → Tells (λ ts. AllGood ts × TableText ts s) (Line tableCallRefusals s) (lent b (tableRead s))
 lent-table-tells b s = lent-tells b (at-zero tt) (more-lines tt (table-tells s))
 
@@ -154,6 +155,9 @@ table-call-tells s memory = lent-table-tells (enough (tableSlices memory)) s
 
 pub graph-tells : (s : List ℕ) (memory : GraphMemory) → Tells (λ ts. AllGood ts × TableText ts s) (Line tableCallRefusals s) (graphRead s memory)
 graph-tells s memory = lent-table-tells (enough (graphSlices memory)) s
+
+pub firsts-tells : (s : List ℕ) (memory : FirstsMemory) → Tells (λ ts. AllGood ts × TableText ts s) (Line tableCallRefusals s) (firstsRead s memory)
+firsts-tells s memory = lent-table-tells (enough (firstsSlices memory)) s
 
 pub islands-tells : (s : List ℕ) (memory : IslandsMemory) → Tells (λ ts. AllGood ts × TableText ts s) (Line tableCallRefusals s) (islandsRead s memory)
 islands-tells s memory = lent-table-tells (enough (islandsSlices memory)) s
@@ -181,6 +185,9 @@ pair-exists s s′ = by (pairRead s s′) refl
 abbrev pub pairsBy : (Tree → Tree → Bool) → List Tree → List Pair
 pairsBy test ts = pairsOf (length ts) (λ i j. test (treeOf ts i) (treeOf ts j))
 
+all-distinct : (ts : List Tree) → AllGood ts → (i : ℕ) → i < length ts → Distinct (treeOf ts i)
+all-distinct ts g i h = good-at ts g i h .distinct
+
 -- a relation that a test decides
 module _ (R : Tree → Tree → Type 0) (test : Tree → Tree → Bool) (decides : (t u : Tree) → Distinct t → Distinct u → T (test t u) ↔ R t u) where
   -- so they are the listing
@@ -188,31 +195,67 @@ module _ (R : Tree → Tree → Type 0) (test : Tree → Tree → Bool) (decides
   listing-by ts D = listing-iff (λ i j h l. decides (treeOf ts i) (treeOf ts j) (D i (omega arith)) (D j l)) (pairsOf-lists (length ts) (λ i j. test (treeOf ts i) (treeOf ts j)))
 
   listed-by : (ts : List Tree) → AllGood ts → Listing (length ts) (At R ts) (pairsBy test ts)
-  listed-by ts g = listing-by ts (λ i h. good-at ts g i h .distinct)
+  listed-by ts g = listing-by ts (all-distinct ts g)
 
-  graph-by-exists : (s : List ℕ) (memory : GraphMemory) → (o : Outcome GraphSize GraphMemory) × GraphBy R s memory o
-  graph-by-exists s memory = by (graphRead s memory) refl
-    where
-      by : (a : Answer (List Tree)) → graphRead s memory ≡ a → (o : Outcome GraphSize GraphMemory) × GraphBy R s memory o
-      by (accepted ts) e = (graphOf ts (pairsBy test ts) memory, lists ts (pairsBy test ts) e (listed-by ts (tells-accepted (graph-tells s memory) e .0)))
-      by (refusal n i p) e = (record { answer = refusal n i p; memory = memory }, GraphBy.refuses n i p e)
+-- the pairs that are one move apart, with copies merged or kept apart
+abbrev chosenTest : Choice → List Tree → ℕ → ℕ → Bool
+chosenTest merged ts i j = eqb (firstOf ts i) i && (eqb (firstOf ts j) j && apart? (treeOf ts i) (treeOf ts j))
+chosenTest kept-apart ts i j = apart? (treeOf ts i) (treeOf ts j)
+
+abbrev pub pairsChosen : Choice → List Tree → List Pair
+pairsChosen choice ts = pairsOf (length ts) (chosenTest choice ts)
 
 -- the pairs that are one move apart
 abbrev pub pairsIn : List Tree → List Pair
 pairsIn = pairsBy apart?
 
-pub graph-exists : (s : List ℕ) (memory : GraphMemory) → (o : Outcome GraphSize GraphMemory) × GraphCall s memory o
-graph-exists = graph-by-exists Apart apart? apart-iff
+pub chosen-listed : (choice : Choice) (ts : List Tree) → ((i : ℕ) → i < length ts → Distinct (treeOf ts i)) → Listing (length ts) (LinkedBy choice Apart ts) (pairsChosen choice ts)
+chosen-listed merged ts D = listing-iff (λ i j h l. merged-test i j (apart-iff (treeOf ts i) (treeOf ts j) (D i (omega arith)) (D j l))) (pairsOf-lists (length ts) (chosenTest merged ts))
+  where
+    eqb-iff : (m n : ℕ) → T (eqb m n) ↔ (m ≡ n)
+    eqb-iff m n = (eqb→eq m n, λ e. subst (λ (x : ℕ). T (eqb m x)) e (eqb-refl m))
+
+    merged-test : (i j : ℕ) → T (apart? (treeOf ts i) (treeOf ts j)) ↔ Apart (treeOf ts i) (treeOf ts j) → T (chosenTest merged ts i j) ↔ LinkedBy merged Apart ts i j
+    merged-test i j A = (
+      λ t.
+          let (x, rest) = T-and (eqb (firstOf ts i) i) (eqb (firstOf ts j) j && apart? (treeOf ts i) (treeOf ts j)) .0 t in
+          let (y, z) = T-and (eqb (firstOf ts j) j) (apart? (treeOf ts i) (treeOf ts j)) .0 rest in
+          (eqb-iff (firstOf ts i) i .0 x, eqb-iff (firstOf ts j) j .0 y, A .0 z),
+      λ x.
+          T-and (eqb (firstOf ts i) i) (eqb (firstOf ts j) j && apart? (treeOf ts i) (treeOf ts j)) .1 (
+            eqb-iff (firstOf ts i) i .1 (x .0),
+            T-and (eqb (firstOf ts j) j) (apart? (treeOf ts i) (treeOf ts j)) .1 (eqb-iff (firstOf ts j) j .1 (x .1), A .1 (x .2)),
+          ),
+    )
+chosen-listed kept-apart ts D = listing-by Apart apart? apart-iff ts D
+
+-- a call that lists pairs has an outcome, where good trees have a listing
+lists-exists : {M : Type 0} {read : Answer (List Tree)} {Linked : List Tree → ℕ → ℕ → Type 0} (left : List Tree → List Pair → Outcome GraphSize M) (memory : M)
+    → ((ts : List Tree) → read ≡ accepted ts → (ps : List Pair) × Listing (length ts) (Linked ts) ps) → (o : Outcome GraphSize M) × Lists read Linked left memory o
+lists-exists {M} {read} {Linked} left memory some = by read refl
+  where
+    by : (a : Answer (List Tree)) → read ≡ a → (o : Outcome GraphSize M) × Lists read Linked left memory o
+    by (accepted ts) e = let (ps, L) = some ts e in (left ts ps, lists ts ps e L)
+    by (refusal n i p) e = (record { answer = refusal n i p; memory = memory }, Lists.refuses n i p e)
+
+pub choosing-exists : (choice : Choice) (s : List ℕ) (memory : FirstsMemory) → (o : Outcome GraphSize FirstsMemory) × ChoosingCall choice s memory o
+choosing-exists choice s memory =
+    lists-exists (λ ts ps. firstsGraphOf ts ps memory) memory (λ ts e. (pairsChosen choice ts, chosen-listed choice ts (all-distinct ts (tells-accepted (firsts-tells s memory) e .0))))
+
+pub graph-exists : (s : List ℕ) (memory : FirstsMemory) → (o : Outcome GraphSize FirstsMemory) × GraphCall s memory o
+graph-exists = choosing-exists merged
 
 pub interchange-exists : (s : List ℕ) (memory : GraphMemory) → (o : Outcome GraphSize GraphMemory) × InterchangeCall s memory o
-interchange-exists = graph-by-exists OneInterchange oneInterchange? oneInterchange-iff
+interchange-exists s memory =
+    lists-exists (λ ts ps. graphOf ts ps memory) memory
+    (λ ts e. (pairsBy oneInterchange? ts, listed-by OneInterchange oneInterchange? oneInterchange-iff ts (tells-accepted (graph-tells s memory) e .0)))
 
--- the islands of the pairs that are one move apart
+-- the islands of the merged pairs
 abbrev islandsIn : List Tree → List ℕ
-islandsIn ts = islandsOf (length ts) (pairsIn ts)
+islandsIn ts = uniteAll (firstsOf ts) (pairsChosen merged ts)
 
-islands-in : (ts : List Tree) → AllGood ts → Listing (length ts) (At Apart ts) (pairsIn ts) × Islands (length ts) (Joined (pairsIn ts)) (islandsIn ts)
-islands-in ts g = let L = listed-by Apart apart? apart-iff ts g in (L, islands-found (length ts) (pairsIn ts) (listing-within L))
+islands-in : (ts : List Tree) → AllGood ts → Listing (length ts) (LinkedBy merged Apart ts) (pairsChosen merged ts) × MergedIslands ts (pairsChosen merged ts) (islandsIn ts)
+islands-in ts g = let L = chosen-listed merged ts (all-distinct ts g) in (L, merged-found ts Apart L)
 
 pub islands-exists : (s : List ℕ) (memory : IslandsMemory) → (o : Outcome GraphSize IslandsMemory) × IslandsCall s memory o
 islands-exists s memory = by (islandsRead s memory) refl
@@ -220,7 +263,7 @@ islands-exists s memory = by (islandsRead s memory) refl
     by : (a : Answer (List Tree)) → islandsRead s memory ≡ a → (o : Outcome GraphSize IslandsMemory) × IslandsCall s memory o
     by (accepted ts) e =
         let (L, I) = islands-in ts (tells-accepted (islands-tells s memory) e .0) in
-        (islandGraphOf ts (pairsIn ts) (islandsIn ts) memory, numbers ts (pairsIn ts) (islandsIn ts) e L I)
+        (islandGraphOf ts (pairsChosen merged ts) (islandsIn ts) memory, numbers ts (pairsChosen merged ts) (islandsIn ts) e L I)
     by (refusal n i p) e = (record { answer = refusal n i p; memory = memory }, IslandsCall.refuses n i p e)
 
 -- a program prints something for every text, where it does for good trees
@@ -235,7 +278,7 @@ pub sheet-exists : (s : List ℕ) → (x : List ℕ) × Sheet s x
 sheet-exists = printout-exists (λ ts g. (sheet ts (pairsIn ts), shows-pairs (pairsIn ts) (listed-by Apart apart? apart-iff ts g)))
 
 pub island-sheet-exists : (s : List ℕ) → (x : List ℕ) × IslandSheet s x
-island-sheet-exists = printout-exists (λ ts g. let (L, I) = islands-in ts g in (islandLines (islandsIn ts), shows-islands (pairsIn ts) (islandsIn ts) L I))
+island-sheet-exists = printout-exists (λ ts g. let (L, I) = islands-in ts g in (islandLines (islandsIn ts), shows-islands (pairsChosen merged ts) (islandsIn ts) L I))
 
 pub sheet-call-exists : (s out : List ℕ) → (o : Outcome ℕ (List ℕ)) × SheetCall s out o
 sheet-call-exists s out = let (x, h) = sheet-exists s in (conclude (sheetGiven x out) out (λ y. textOf y out), gives x h)

@@ -7,15 +7,15 @@ use Prim.Native.Nat.{ℕ}
 use lib.ListN.{length}
 use Rattle.meaning.specs.Tree.{Tree}
 use Rattle.meaning.specs.Move.{Apart}
-use Rattle.meaning.specs.Listing.{Pair, Listing, At}
-use Rattle.meaning.specs.Islands.{Joined, Islands}
-use Rattle.meaning.specs.Answer.{Answer, accepted, refusal, Outcome, TableSize, TableMemory, GraphSize, GraphMemory, IslandsMemory, textOf, conclude}
-use Rattle.meaning.specs.Calls.{formCall, cutCall, PairCall, is-apart, not-apart, refuses, tableCall, GraphBy, lists, graphOf, IslandsCall, numbers, islandGraphOf}
+use Rattle.meaning.specs.Listing.{Pair, Listing}
+use Rattle.meaning.specs.Copies.{merged, LinkedBy, MergedIslands}
+use Rattle.meaning.specs.Answer.{Answer, accepted, refusal, Outcome, TableSize, TableMemory, GraphSize, IslandsMemory, textOf, conclude}
+use Rattle.meaning.specs.Calls.{formCall, cutCall, PairCall, is-apart, not-apart, refuses, tableCall, Lists, lists, IslandsCall, numbers, islandGraphOf}
 use Rattle.meaning.specs.IslandSheet.{IslandSheetOf, shows-islands, IslandSheet, islandLines}
 use Rattle.meaning.specs.Sheet.{refusalLine, Printout, prints, sheet, SheetOf, shows-pairs, Sheet, sheetGiven, SheetCall, gives}
 use Rattle.meaning.proofs.Logic.{clash}
 use Rattle.meaning.proofs.Listing.{listing-unique}
-use Rattle.meaning.proofs.Islands.{islands-unique}
+use Rattle.meaning.proofs.MergedIslands.{merged-unique}
 
 pub form-determined : (s out : List ℕ) (o o′ : Outcome ℕ (List ℕ)) → o ≡ formCall s out → o′ ≡ formCall s out → o ≡ o′
 form-determined s out o o′ e f = e ∙ sym f
@@ -52,27 +52,30 @@ pair-determined (PairCall.refuses n i p e) (not-apart t′ u′ e′ h′) = abs
 pair-determined (PairCall.refuses n i p e) (PairCall.refuses n′ i′ p′ e′) = let (x, y, z) = same-refusal e e′ in cc
 
 -- one table has one listing
-same-listing : (R : Tree → Tree → Type 0) {a : Answer (List Tree)} {ts us : List Tree} {ps qs : List Pair} → a ≡ accepted ts → a ≡ accepted us → Listing (length ts) (At R ts) ps → Listing (length us) (At R us) qs → (ts ≡ us) × (ps ≡ qs)
-same-listing R {ps} e f L M =
+same-listing : (Linked : List Tree → ℕ → ℕ → Type 0) {a : Answer (List Tree)} {ts us : List Tree} {ps qs : List Pair} → a ≡ accepted ts → a ≡ accepted us
+    → Listing (length ts) (Linked ts) ps → Listing (length us) (Linked us) qs → (ts ≡ us) × (ps ≡ qs)
+same-listing Linked {ps} e f L M =
     let h = same-accepted e f in
-    (h, listing-unique (subst (λ (vs : List Tree). Listing (length vs) (At R vs) ps) h L) M)
+    (h, listing-unique (subst (λ (vs : List Tree). Listing (length vs) (Linked vs) ps) h L) M)
 
-pub graph-determined : {R : Tree → Tree → Type 0} {s : List ℕ} {memory : GraphMemory} {o o′ : Outcome GraphSize GraphMemory} → GraphBy R s memory o → GraphBy R s memory o′ → o ≡ o′
-graph-determined {R} {memory} (lists ts ps e L) (lists ts′ ps′ e′ L′) = let (h, k) = same-listing R e e′ L L′ in ap₂ (λ (vs : List Tree) (qs : List Pair). graphOf vs qs memory) h k
-graph-determined (lists ts ps e L) (GraphBy.refuses n i p e′) = absurd (not-both e e′)
-graph-determined (GraphBy.refuses n i p e) (lists ts ps e′ L) = absurd (not-both e′ e)
-graph-determined (GraphBy.refuses n i p e) (GraphBy.refuses n′ i′ p′ e′) = let (x, y, z) = same-refusal e e′ in cc
+-- the interchange call and the graph call with either choice
+pub lists-determined : {M : Type 0} {read : Answer (List Tree)} {Linked : List Tree → ℕ → ℕ → Type 0} {left : List Tree → List Pair → Outcome GraphSize M} {memory : M} {o o′ : Outcome GraphSize M}
+    → Lists read Linked left memory o → Lists read Linked left memory o′ → o ≡ o′
+lists-determined {Linked} {left} (lists ts ps e L) (lists ts′ ps′ e′ L′) = let (h, k) = same-listing Linked e e′ L L′ in ap₂ left h k
+lists-determined (lists ts ps e L) (Lists.refuses n i p e′) = absurd (not-both e e′)
+lists-determined (Lists.refuses n i p e) (lists ts ps e′ L) = absurd (not-both e′ e)
+lists-determined (Lists.refuses n i p e) (Lists.refuses n′ i′ p′ e′) = let (x, y, z) = same-refusal e e′ in cc
 
 -- and its positions have one number each
 same-islands : {a : Answer (List Tree)} {ts us : List Tree} {ps qs : List Pair} {ms ns : List ℕ} → a ≡ accepted ts → a ≡ accepted us
-    → Listing (length ts) (At Apart ts) ps → Listing (length us) (At Apart us) qs → Islands (length ts) (Joined ps) ms → Islands (length us) (Joined qs) ns → ms ≡ ns
+    → Listing (length ts) (LinkedBy merged Apart ts) ps → Listing (length us) (LinkedBy merged Apart us) qs → MergedIslands ts ps ms → MergedIslands us qs ns → ms ≡ ns
 same-islands {ms} e f L M I K =
-    let (h, k) = same-listing Apart e f L M in
-    islands-unique (subst₂ (λ (vs : List Tree) (rs : List Pair). Islands (length vs) (Joined rs) ms) h k I) K
+    let (h, k) = same-listing (LinkedBy merged Apart) e f L M in
+    merged-unique (subst₂ (λ (vs : List Tree) (rs : List Pair). MergedIslands vs rs ms) h k I) K
 
 pub islands-determined : {s : List ℕ} {memory : IslandsMemory} {o o′ : Outcome GraphSize IslandsMemory} → IslandsCall s memory o → IslandsCall s memory o′ → o ≡ o′
 islands-determined {memory} (numbers ts ps ms e L I) (numbers ts′ ps′ ms′ e′ L′ I′) =
-    let (h, k) = same-listing Apart e e′ L L′ in
+    let (h, k) = same-listing (LinkedBy merged Apart) e e′ L L′ in
     ap₂ (λ (vs : List Tree) (qs : List Pair). islandGraphOf vs qs ms memory) h k ∙ ap (λ (ns : List ℕ). islandGraphOf ts′ ps′ ns memory) (same-islands e e′ L L′ I I′)
 islands-determined (numbers ts ps ms e L I) (IslandsCall.refuses n i p e′) = absurd (not-both e e′)
 islands-determined (IslandsCall.refuses n i p e) (numbers ts ps ms e′ L I) = absurd (not-both e′ e)

@@ -2,27 +2,27 @@
 -- Assumes nothing.
 use mathlib.Core.Path.{_≡_, refl, sym, ap, ap₂, subst, _∙_}
 use mathlib.Core.Logic.{_↔_, _≢_, _⊎_, inl, inr}
-use mathlib.Core.List.{List, [], _∷_, _++_, List·Memᴰ·head, List·Memᴰ·tail, List·Memᴰ·not-nil}
+use mathlib.Core.List.{List, [], _∷_, List·Memᴰ·head, List·Memᴰ·tail, List·Memᴰ·not-nil}
 use Prim.Native.Nat.{ℕ, zero, suc, _≤_, _<_, min, max}
 use native.Mathlib.Decide.{ℕ-discrete, decLe}
 use native.Mathlib.Omega.{arith}
 use borrow.Author.Tests.{eq-eqb, ne-eqb}
 use lib.Dec.{eqb}
-use lib.ListN.{length, getD, length-append, length-map, List·getD-append}
-use lib.Seq.{ext-getD, getD-at}
-use Rattle.meaning.specs.Lists.{bit, positions, upto}
+use lib.ListN.{length, getD, length-map}
+use lib.Seq.{ext-getD}
+use Rattle.meaning.specs.Lists.{bit, upto}
 use Rattle.meaning.specs.Listing.{Pair, Listing}
-use Rattle.meaning.specs.Islands.{Joined, Chain, here, step, Island, Islands, size, renumbered, unite, uniteAll, islandsOf, Within}
+use Rattle.meaning.specs.Islands.{Joined, Chain, here, step, Island, Islands, size, renumbered, unite, uniteAll, Within}
 use Rattle.meaning.proofs.Lists.{getD-map, number}
 use Rattle.meaning.proofs.Sums.{upto-add, upto-at, upto-const}
 
 -- ---- chains
 -- steps may be taken back
-abbrev Turned : (ℕ → ℕ → Type 0) → Type 0
+abbrev pub Turned : (ℕ → ℕ → Type 0) → Type 0
 Turned Joins = (i j : ℕ) → Joins i j → Joins j i
 
 -- steps lead to positions below k
-abbrev Below : ℕ → (ℕ → ℕ → Type 0) → Type 0
+abbrev pub Below : ℕ → (ℕ → ℕ → Type 0) → Type 0
 Below k Joins = (i j : ℕ) → Joins i j → j < k
 
 module _ {Joins : ℕ → ℕ → Type 0} where
@@ -30,14 +30,14 @@ module _ {Joins : ℕ → ℕ → Type 0} where
   chain-then here d = d
   chain-then (step s c) d = step s (chain-then c d)
 
-  chain-one : {i j : ℕ} → Joins i j → Chain Joins i j
+  pub chain-one : {i j : ℕ} → Joins i j → Chain Joins i j
   chain-one s = step s here
 
   pub chain-back : Turned Joins → {i j : ℕ} → Chain Joins i j → Chain Joins j i
   chain-back turn here = here
   chain-back turn (step {i} {j} s c) = chain-then (chain-back turn c) (chain-one (turn i j s))
 
-chain-map : {Joins Others : ℕ → ℕ → Type 0} → ((i j : ℕ) → Joins i j → Others i j) → {i j : ℕ} → Chain Joins i j → Chain Others i j
+pub chain-map : {Joins Others : ℕ → ℕ → Type 0} → ((i j : ℕ) → Joins i j → Others i j) → {i j : ℕ} → Chain Joins i j → Chain Others i j
 chain-map f here = here
 chain-map f (step {i} {j} s c) = step (f i j s) (chain-map f c)
 
@@ -252,7 +252,7 @@ with-iff Joins p ps x y = (to, from)
     from (inr (inr (List·Memᴰ·head e))) = inl (inr (inr (ap (λ (q : Pair). q .1) e, ap (λ (q : Pair). q .0) e)))
     from (inr (inr (List·Memᴰ·tail m))) = inr (inr m)
 
-unite-all : {k : ℕ} (Joins : ℕ → ℕ → Type 0) {ms : List ℕ} (ps : List Pair) → Turned Joins → Below k Joins → Within k ps → Islands k Joins ms
+pub unite-all : {k : ℕ} (Joins : ℕ → ℕ → Type 0) {ms : List ℕ} (ps : List Pair) → Turned Joins → Below k Joins → Within k ps → Islands k Joins ms
     → Islands k (λ x y. Joins x y ⊎ Joined ps x y) (uniteAll ms ps)
 unite-all Joins [] turn below W I = islands-map (λ x y. (inl, none)) I
   where
@@ -274,37 +274,3 @@ unite-all {k} Joins (p ∷ ps) turn below W I =
     inside i-in j-in x y (inl s) = below x y s
     inside i-in j-in x y (inr (inl e)) = omega arith
     inside i-in j-in x y (inr (inr e)) = omega arith
-
--- the positions, as a list
-positions-length : (k : ℕ) → length (positions k) ≡ k
-unfolding positions
-positions-length zero = refl
-positions-length (suc k) = simp length-append (omega (arith, positions-length k))
-
-positions-at : (k i : ℕ) → i < k → getD (positions k) i 0 ≡ i
-unfolding positions
-positions-at zero i h = absurd (omega arith)
-positions-at (suc k) i h = by (ℕ-discrete k i) (positions-at k i)
-  where
-    by : Dec (k ≡ i) → (i < k → getD (positions k) i 0 ≡ i) → getD (positions k ++ (k ∷ [])) i 0 ≡ i
-    by (yes e) f = getD-at (positions k) k [] 0 i (positions-length k ∙ e) ∙ e
-    by (no n) f = List·getD-append (positions k) (k ∷ []) 0 i (omega (arith, positions-length k)) ∙ f (omega arith)
-
--- before any pair each position is an island
-alone : (k : ℕ) → Islands k (λ x y. ⊥) (positions k)
-alone k = record {
-  many = positions-length k;
-  number = λ i h. record { joined = subst (Chain (λ x y. ⊥) i) (sym (positions-at k i h)) here; smallest = λ j c. omega (arith, positions-at k i h, stays c) };
-}
-  where
-    stays : {i j : ℕ} → Chain (λ x y. ⊥) i j → i ≡ j
-    stays here = refl
-    stays (step s c) = absurd s
-
--- so uniting the islands of each pair gives the islands of all
-pub islands-found : (k : ℕ) (ps : List Pair) → Within k ps → Islands k (Joined ps) (islandsOf k ps)
-islands-found k ps W = islands-map (λ x y. (only, inr)) (unite-all (λ x y. ⊥) ps (λ x y s. s) (λ x y s. absurd s) W (alone k))
-  where
-    only : {x y : ℕ} → ⊥ ⊎ Joined ps x y → Joined ps x y
-    only (inl s) = absurd s
-    only (inr s) = s

@@ -4,6 +4,7 @@ pub mod Calls
 pub mod Canon
 pub mod Clade
 pub mod Complete
+pub mod Copies
 pub mod Counts
 pub mod Cuts
 pub mod Decide
@@ -24,6 +25,7 @@ pub mod Logic
 pub mod Longest
 pub mod Loops
 pub mod Memory
+pub mod MergedIslands
 pub mod Moves
 pub mod Order
 pub mod Places

@@ -6,18 +6,20 @@ use Prim.Native.Nat.{ℕ, suc, _+_, _-_, _*_, _≤_}
 use native.Mathlib.Omega.{arith}
 use lib.ListN.{length, drop, length-append, length-drop}
 use lib.Seq.{drop-append-add, drop-drop}
-use Rattle.meaning.specs.Limits.{formBytes, forestBytes, sheetBytes}
+use Rattle.meaning.specs.Limits.{formBytes, forestBytes, maxTrees, pairNumbers, sheetBytes}
 use Rattle.meaning.specs.Tree.{Tree, AllGood, form, forms}
 use Rattle.meaning.specs.Move.{cutAt, forest}
-use Rattle.meaning.specs.Listing.{counts, flat}
-use Rattle.meaning.specs.Answer.{Answer, accepted, refusal, Outcome, TableMemory, GraphSize, GraphMemory, IslandsMemory, written, textOf, conclude}
-use Rattle.meaning.specs.Calls.{enough, lent, formCall, cutCall, tableRead, ends, tableSlices, tableCallRead, tableOf, tableCall, graphSlices, GraphBy, lists, islandsSlices, IslandsCall, numbers}
+use Rattle.meaning.specs.Listing.{Pair, Listing, counts, flat}
+use Rattle.meaning.specs.Copies.{firstOf, firstsOf, Choice}
+use Rattle.meaning.specs.Answer.{Answer, accepted, refusal, Outcome, TableMemory, GraphSize, GraphMemory, FirstsMemory, IslandsMemory, written, textOf, conclude}
+use Rattle.meaning.specs.Calls.{enough, lent, formCall, cutCall, tableRead, ends, tableSlices, tableCallRead, tableOf, tableCall, graphSlices, graphOf, Lists, lists, InterchangeCall, firstsSlices, ChoosingCall, islandsSlices, IslandsCall, numbers}
 use Rattle.meaning.specs.Sheet.{Sheet, SheetCall, gives}
 use Rattle.meaning.proofs.Length.{form-length, forest-length}
 use Rattle.meaning.proofs.Forests.{cutAt-good}
 use Rattle.meaning.proofs.Lent.{lent-ample}
 use Rattle.meaning.proofs.Counts.{counts-length, flat-few}
-use Rattle.meaning.proofs.Calls.{tells-accepted, form-tells, cut-tells, table-call-tells, graph-tells, islands-tells, sheet-call-tells}
+use Rattle.meaning.proofs.Sums.{map-length}
+use Rattle.meaning.proofs.Calls.{tells-accepted, form-tells, cut-tells, table-call-tells, graph-tells, firsts-tells, islands-tells, sheet-call-tells}
 
 -- a slice keeps its length where what is written fits
 pub written-length : (xs slice : List ℕ) → length xs ≤ length slice → length (written xs slice) ≡ length slice
@@ -81,26 +83,45 @@ table-memory s memory =
     let room = lent-ample (tableSlices memory) (tableRead s) e in
     (written-length (forms ts) (memory .texts) (omega (arith, forms-length ts (r .0))), written-length (ends 0 ts) (memory .ends) (omega (arith, ends-length 0 ts))))
 
--- whatever links the trees
-pub graph-memory : {R : Tree → Tree → Type 0} (s : List ℕ) (memory : GraphMemory) (o : Outcome GraphSize GraphMemory) → GraphBy R s memory o
-    → (length (o .memory .pairs) ≡ length (memory .pairs)) × (length (o .memory .counts) ≡ length (memory .counts))
-graph-memory s memory o (GraphBy.refuses n i p e) = (refl, refl)
-graph-memory s memory o (lists ts ps e L) =
-    let r = tells-accepted (graph-tells s memory) e in
-    let room = lent-ample (graphSlices memory) (tableRead s) e in
-    (written-length (flat ps) (memory .pairs) (omega (arith, flat-few L (r .1 .few))), written-length (counts (length ts) ps) (memory .counts) (omega (arith, counts-length (length ts) ps)))
+-- the slices of a call that lists pairs
+graph-kept : (memory : GraphMemory) (ts : List Tree) {L : ℕ → ℕ → Type 0} {ps : List Pair} → Listing (length ts) L ps → length ts ≤ maxTrees
+    → pairNumbers ≤ length (memory .pairs) → maxTrees ≤ length (memory .counts)
+    → (length (graphOf ts ps memory .memory .pairs) ≡ length (memory .pairs)) × (length (graphOf ts ps memory .memory .counts) ≡ length (memory .counts))
+graph-kept memory ts {ps} L few p c =
+    (written-length (flat ps) (memory .pairs) (omega (arith, flat-few L few, p)), written-length (counts (length ts) ps) (memory .counts) (omega (arith, counts-length (length ts) ps, few, c)))
+
+firsts-kept : (ts : List Tree) (firsts : List ℕ) → length ts ≤ maxTrees → maxTrees ≤ length firsts → length (written (firstsOf ts) firsts) ≡ length firsts
+firsts-kept ts firsts few room = written-length (firstsOf ts) firsts (omega (arith, map-length (firstOf ts) (length ts), few, room))
+
+module _ (s : List ℕ) (memory : GraphMemory) where
+  pub interchange-memory : (o : Outcome GraphSize GraphMemory) → InterchangeCall s memory o
+      → (length (o .memory .pairs) ≡ length (memory .pairs)) × (length (o .memory .counts) ≡ length (memory .counts))
+  interchange-memory o (Lists.refuses n i p e) = (refl, refl)
+  interchange-memory o (lists ts ps e L) =
+      let few = tells-accepted (graph-tells s memory) e .1 .few in
+      let room = lent-ample (graphSlices memory) (tableRead s) e in
+      graph-kept memory ts L few (room .0) (room .1)
+
+module _ (choice : Choice) (s : List ℕ) (memory : FirstsMemory) where
+  pub graph-memory : (o : Outcome GraphSize FirstsMemory) → ChoosingCall choice s memory o
+      → (length (o .memory .graph .pairs) ≡ length (memory .graph .pairs)) × (length (o .memory .graph .counts) ≡ length (memory .graph .counts))
+      × (length (o .memory .firsts) ≡ length (memory .firsts))
+  graph-memory o (Lists.refuses n i p e) = (refl, refl, refl)
+  graph-memory o (lists ts ps e L) =
+      let few = tells-accepted (firsts-tells s memory) e .1 .few in
+      let room = lent-ample (firstsSlices memory) (tableRead s) e in
+      let (x, y) = graph-kept (memory .graph) ts L few (room .0) (room .1 .0) in
+      (x, y, firsts-kept ts (memory .firsts) few (room .1 .1))
 
 pub islands-memory : (s : List ℕ) (memory : IslandsMemory) (o : Outcome GraphSize IslandsMemory) → IslandsCall s memory o
-    → (length (o .memory .graph .pairs) ≡ length (memory .graph .pairs)) × (length (o .memory .graph .counts) ≡ length (memory .graph .counts))
-    × (length (o .memory .islands) ≡ length (memory .islands))
-islands-memory s memory o (IslandsCall.refuses n i p e) = (refl, refl, refl)
+    → (length (o .memory .lists .graph .pairs) ≡ length (memory .lists .graph .pairs)) × (length (o .memory .lists .graph .counts) ≡ length (memory .lists .graph .counts))
+    × (length (o .memory .lists .firsts) ≡ length (memory .lists .firsts)) × (length (o .memory .islands) ≡ length (memory .islands))
+islands-memory s memory o (IslandsCall.refuses n i p e) = (refl, refl, refl, refl)
 islands-memory s memory o (numbers ts ps ms e L I) =
-    let r = tells-accepted (islands-tells s memory) e in
-    let room = lent-ample (islandsSlices memory) (tableRead s) e in (
-      written-length (flat ps) (memory .graph .pairs) (omega (arith, flat-few L (r .1 .few))),
-      written-length (counts (length ts) ps) (memory .graph .counts) (omega (arith, counts-length (length ts) ps)),
-      written-length ms (memory .islands) (omega (arith, I .many, r .1 .few)),
-    )
+    let few = tells-accepted (islands-tells s memory) e .1 .few in
+    let room = lent-ample (islandsSlices memory) (tableRead s) e in
+    let (x, y) = graph-kept (memory .lists .graph) ts L few (room .0) (room .1 .0) in
+    (x, y, firsts-kept ts (memory .lists .firsts) few (room .1 .1 .0), written-length ms (memory .islands) (omega (arith, I .many, few, room .1 .1 .1)))
 
 -- where no sheet is longer than stated
 pub sheet-memory : {s out : List ℕ} {o : Outcome ℕ (List ℕ)} → ((x : List ℕ) → Sheet s x → length x ≤ sheetBytes) → SheetCall s out o → length (o .memory) ≡ length out

@@ -11,8 +11,8 @@ use Rattle.meaning.specs.Limits.{textBytes, formBytes, forestBytes, maxT
 use Rattle.meaning.specs.Tree.{Tree, leaves}
 use Rattle.meaning.specs.Reading.{got, refused, value, badLabel, labelAt, treeAt, readTree, sameLabels, tableFrom}
 use Rattle.meaning.specs.Prefix.{TooDeepAt}
-use Rattle.meaning.specs.Answer.{Answer, accepted, refusal, Outcome, TableMemory, GraphMemory, IslandsMemory, textOf, onward, conclude}
-use Rattle.meaning.specs.Calls.{answered, formSlices, formRead, hasCut, cutSlices, cutRead, beside, pairRead, tableRead, tableSlices, tableOf, tableCall, graphSlices, graphRead, islandsSlices, islandsRead}
+use Rattle.meaning.specs.Answer.{Answer, accepted, refusal, Outcome, TableMemory, GraphMemory, FirstsMemory, IslandsMemory, textOf, onward, conclude}
+use Rattle.meaning.specs.Calls.{answered, formSlices, formRead, hasCut, cutSlices, cutRead, beside, pairRead, tableRead, tableSlices, tableOf, tableCall, graphSlices, graphRead, firstsSlices, firstsRead, islandsSlices, islandsRead}
 use Rattle.meaning.specs.Sheet.{sheetSlices, SheetCall, gives}
 use Rattle.meaning.proofs.Lent.{seven, ample, eight, in-limit}
 use Rattle.meaning.proofs.Lines.{line-four-iff}
@@ -33,8 +33,14 @@ table-seven s memory h = ap (λ (a : Answer (List Tree)). conclude a memory λ t
 pub graph-seven : (s : List ℕ) (memory : GraphMemory) → (length (memory .pairs) < pairNumbers) ⊎ (length (memory .counts) < maxTrees) → graphRead s memory ≡ refusal 7 0 0
 graph-seven s memory h = seven (graphSlices memory) _ h
 
+pub firsts-seven : (s : List ℕ) (memory : FirstsMemory)
+    → (length (memory .graph .pairs) < pairNumbers) ⊎ ((length (memory .graph .counts) < maxTrees) ⊎ (length (memory .firsts) < maxTrees)) → firstsRead s memory ≡ refusal 7 0 0
+firsts-seven s memory h = seven (firstsSlices memory) _ h
+
 pub islands-seven : (s : List ℕ) (memory : IslandsMemory)
-    → (length (memory .graph .pairs) < pairNumbers) ⊎ ((length (memory .graph .counts) < maxTrees) ⊎ (length (memory .islands) < maxTrees)) → islandsRead s memory ≡ refusal 7 0 0
+    → (length (memory .lists .graph .pairs) < pairNumbers)
+    ⊎ ((length (memory .lists .graph .counts) < maxTrees) ⊎ ((length (memory .lists .firsts) < maxTrees) ⊎ (length (memory .islands) < maxTrees)))
+    → islandsRead s memory ≡ refusal 7 0 0
 islands-seven s memory h = seven (islandsSlices memory) _ h
 
 pub sheet-seven : {s out : List ℕ} {o : Outcome ℕ (List ℕ)} → SheetCall s out o → length out < sheetBytes → o ≡ record { answer = refusal 7 0 0; memory = out }

@@ -19,13 +19,14 @@ use Rattle.meaning.specs.Decide.{distinct?, apart?}
 use Rattle.meaning.specs.Answer.{accepted}
 use Rattle.meaning.specs.Calls.{is-apart, not-apart, lists, tableRead}
 use Rattle.meaning.specs.Sheet.{Sheet, prints, shows-pairs, twoFields, treeLine, treeLines, pairLines, sheet}
-use Rattle.meaning.specs.Islands.{islandsOf}
+use Rattle.meaning.specs.Islands.{uniteAll}
+use Rattle.meaning.specs.Copies.{firstsOf, merged, LinkedBy}
 use Rattle.meaning.specs.IslandSheet.{linesFrom, islandLines, shows-islands, IslandSheet}
 use Rattle.meaning.specs.Samples.{AllHold, samples}
 use Rattle.meaning.proofs.Decide.{distinct-iff, apart-iff}
 use Rattle.meaning.specs.Loops.{each, rowOf, pairsFrom}
-use Rattle.meaning.proofs.Calls.{pairsIn, listing-by}
-use Rattle.meaning.proofs.Islands.{listing-within, islands-found}
+use Rattle.meaning.proofs.Calls.{pairsIn, listing-by, pairsChosen, chosen-listed}
+use Rattle.meaning.proofs.MergedIslands.{merged-found}
 
 -- a pair is decided by computation
 pub near : (t u : Tree) → T (distinct? t) → T (distinct? u) → T (apart? t u) → Apart t u
@@ -46,6 +47,10 @@ distinct-at (t ∷ ts) d (suc i) h = distinct-at ts (d .1) i (omega arith)
 
 pub listed : (ts : List Tree) (ps : List Pair) → Distincts ts → pairsIn ts ≡ ps → Listing (length ts) (At Apart ts) ps
 listed ts ps d e = subst (Listing (length ts) (At Apart ts)) e (listing-by Apart apart? apart-iff ts (distinct-at ts d))
+
+-- and that of its first positions
+merged-listed : (ts : List Tree) (ps : List Pair) → Distincts ts → pairsChosen merged ts ≡ ps → Listing (length ts) (LinkedBy merged Apart ts) ps
+merged-listed ts ps d e = subst (Listing (length ts) (LinkedBy merged Apart ts)) e (chosen-listed merged ts (distinct-at ts d))
 
 -- the trees of a table that is read
 abbrev trees : Read (List Tree) → List Tree
@@ -76,11 +81,12 @@ samples-hold =
     and (λ out h. rw (le-leb forestBytes (length out) h))
     and is-apart _ _ refl (near _ _ tt tt tt)
     and (_, _, refl, refl)
-    and (λ memory h k. (
+    and (λ memory h k l. (
       two,
       refl,
       lists two ((0, 1) ∷ [])
-          (rw (le-leb pairNumbers (length (memory .pairs)) h, le-leb maxTrees (length (memory .counts)) k)) (listed two ((0, 1) ∷ []) (tt, (tt, tt)) refl),
+          (rw (le-leb pairNumbers (length (memory .graph .pairs)) h, le-leb maxTrees (length (memory .graph .counts)) k, le-leb maxTrees (length (memory .firsts)) l))
+          (merged-listed two ((0, 1) ∷ []) (tt, (tt, tt)) refl),
     ))
     and not-apart _ _ refl (far _ _ tt tt tt)
     and not-apart _ _ refl (far _ _ tt tt tt)
@@ -143,15 +149,15 @@ three-read : tableRead mixed ≡ accepted three
 unfolding isBlank isDigit lead past valueAfter value member token badLabel labelAt forkAt nodeAt readNode treeAt readTree within tableFrom readTable
 three-read = refl
 
-joined-listed : Listing 3 (At Apart three) joined
+joined-listed : Listing 3 (LinkedBy merged Apart three) joined
 unfolding pairsFrom rowOf each
-joined-listed = listed three joined (tt, (tt, (tt, tt))) refl
+joined-listed = merged-listed three joined (tt, (tt, (tt, tt))) refl
 
-lines-are : islandLines (islandsOf 3 joined) ≡ bytes "island 0 2\nisland 1 1\n"
+lines-are : islandLines (uniteAll (firstsOf three) joined) ≡ bytes "island 0 2\nisland 1 1\n"
 unfolding positions twoFields linesFrom
 lines-are = refl
 
 pub islands-hold : IslandSheet mixed (bytes "island 0 2\nisland 1 1\n")
 islands-hold =
-    subst (IslandSheet mixed) lines-are (prints three (islandLines (islandsOf 3 joined)) three-read
-    (shows-islands joined (islandsOf 3 joined) joined-listed (islands-found 3 joined (listing-within joined-listed))))
+    subst (IslandSheet mixed) lines-are (prints three (islandLines (uniteAll (firstsOf three) joined)) three-read
+    (shows-islands joined (uniteAll (firstsOf three) joined) joined-listed (merged-found three Apart joined-listed)))

@@ -1,4 +1,4 @@
--- What the calls answer, in document 01's numbers and values, and what they leave in lent memory. In words: docs/RULES.md, 'The eight calls'.
+-- What the calls answer, in document 01's numbers and values, and what they leave in lent memory. In words: docs/RULES.md, 'The nine calls'.
 -- Assumes nothing.
 use mathlib.Core.List.{List, _++_}
 use Prim.Native.Nat.{ℕ}
@@ -29,14 +29,19 @@ pub record GraphSize : Type 0 where
   pub trees : ℕ
   pub pairs : ℕ
 
--- the slices lent to the graph call: for the pairs, and for the neighbour counts
+-- the slices lent to the interchange call: for the pairs, and for the neighbour counts
 pub record GraphMemory : Type 0 where
   pub pairs : List ℕ
   pub counts : List ℕ
 
+-- the slices lent to the graph call: those, and one for the first position of each topology
+pub record FirstsMemory : Type 0 where
+  pub graph : GraphMemory
+  pub firsts : List ℕ
+
 -- the slices lent to the islands call: the graph call's, and one for the islands' numbers
 pub record IslandsMemory : Type 0 where
-  pub graph : GraphMemory
+  pub lists : FirstsMemory
   pub islands : List ℕ
 
 -- a slice with xs written from its start on, and nothing changed behind that

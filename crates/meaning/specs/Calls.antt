@@ -1,4 +1,4 @@
--- Seven of the eight calls (the eighth is in Sheet): from the texts, the cut number and the lent memory at entry to the answer and the memory at exit. In words: docs/RULES.md, 'The eight calls'.
+-- Eight of the nine calls (the ninth is in Sheet): from the texts, the cut number and the lent memory at entry to the answer and the memory at exit. In words: docs/RULES.md, 'The nine calls'.
 -- Assumes nothing.
 use mathlib.Core.Path.{_≡_}
 use mathlib.Core.Bool.{Bool, true, false, cond}
@@ -13,8 +13,8 @@ use Rattle.meaning.specs.Move.{cutAt, forest, Apart}
 use Rattle.meaning.specs.Interchange.{OneInterchange}
 use Rattle.meaning.specs.Reading.{Read, got, refused, readTree, readTable, unlike}
 use Rattle.meaning.specs.Listing.{Pair, Listing, At, counts, flat}
-use Rattle.meaning.specs.Islands.{Joined, Islands}
-use Rattle.meaning.specs.Answer.{Answer, accepted, refusal, Outcome, TableSize, TableMemory, GraphSize, GraphMemory, IslandsMemory, written, textOf, onward, conclude}
+use Rattle.meaning.specs.Copies.{firstsOf, Choice, merged, LinkedBy, MergedIslands}
+use Rattle.meaning.specs.Answer.{Answer, accepted, refusal, Outcome, TableSize, TableMemory, GraphSize, GraphMemory, FirstsMemory, IslandsMemory, written, textOf, onward, conclude}
 
 -- a lent slice: the stated size, and its length
 abbrev pub Slice : Type 0
@@ -114,11 +114,11 @@ tableOf ts memory = record {
 abbrev pub tableCall : List ℕ → TableMemory → Outcome TableSize TableMemory
 tableCall s memory = conclude (tableCallRead s memory) memory λ ts. tableOf ts memory
 
--- lent to the graph call: 25,440 numbers for pairs and 160 for counts
+-- lent to the interchange call: 25,440 numbers for pairs and 160 for counts
 abbrev pub graphSlices : GraphMemory → List Slice
 graphSlices memory = (pairNumbers, length (memory .pairs)) ∷ (maxTrees, length (memory .counts)) ∷ []
 
--- what the graph call reads
+-- what the interchange call reads
 abbrev pub graphRead : List ℕ → GraphMemory → Answer (List Tree)
 graphRead s memory = lent (enough (graphSlices memory)) (tableRead s)
 
@@ -129,22 +129,40 @@ graphOf ts ps memory = record {
   memory = record { pairs = written (flat ps) (memory .pairs); counts = written (counts (length ts) ps) (memory .counts) };
 }
 
--- the pairs are the listing of those trees that R links
-pub data GraphBy (R : Tree → Tree → Type 0) (s : List ℕ) (memory : GraphMemory) : Outcome GraphSize GraphMemory → Type 0 where
-  lists : (ts : List Tree) (ps : List Pair) → graphRead s memory ≡ accepted ts → Listing (length ts) (At R ts) ps → GraphBy R s memory (graphOf ts ps memory)
-  refuses : (n i p : ℕ) → graphRead s memory ≡ refusal n i p → GraphBy R s memory (record { answer = refusal n i p; memory = memory })
+-- a call that lists the linked positions of the trees that it reads, and leaves the listed pairs as `left` says
+pub data Lists {M : Type 0} (read : Answer (List Tree)) (Linked : List Tree → ℕ → ℕ → Type 0) (left : List Tree → List Pair → Outcome GraphSize M) (memory : M) : Outcome GraphSize M → Type 0 where
+  lists : (ts : List Tree) (ps : List Pair) → read ≡ accepted ts → Listing (length ts) (Linked ts) ps → Lists read Linked left memory (left ts ps)
+  refuses : (n i p : ℕ) → read ≡ refusal n i p → Lists read Linked left memory (record { answer = refusal n i p; memory = memory })
 
--- graph call: the pairs that are one move apart
-abbrev pub GraphCall : List ℕ → GraphMemory → Outcome GraphSize GraphMemory → Type 0
-GraphCall s memory outcome = GraphBy Apart s memory outcome
-
--- interchange call: the pairs that are one interchange apart, in the graph call's slices
+-- interchange call: the pairs that are one interchange apart; copies are kept apart
 abbrev pub InterchangeCall : List ℕ → GraphMemory → Outcome GraphSize GraphMemory → Type 0
-InterchangeCall s memory outcome = GraphBy OneInterchange s memory outcome
+InterchangeCall s memory outcome = Lists (graphRead s memory) (At OneInterchange) (λ ts ps. graphOf ts ps memory) memory outcome
+
+-- lent to the graph call: the same, and 160 numbers for first positions
+abbrev pub firstsSlices : FirstsMemory → List Slice
+firstsSlices memory = graphSlices (memory .graph) ++ ((maxTrees, length (memory .firsts)) ∷ [])
+
+-- what the graph call reads
+abbrev pub firstsRead : List ℕ → FirstsMemory → Answer (List Tree)
+firstsRead s memory = lent (enough (firstsSlices memory)) (tableRead s)
+
+-- the pairs and counts, and for every position the first position of its topology
+abbrev pub firstsGraphOf : List Tree → List Pair → FirstsMemory → Outcome GraphSize FirstsMemory
+firstsGraphOf ts ps memory =
+    let graph : Outcome GraphSize GraphMemory = graphOf ts ps (memory .graph) in
+    record { answer = graph .answer; memory = record { graph = graph .memory; firsts = written (firstsOf ts) (memory .firsts) } }
+
+-- graph call with a stated choice: the pairs that are one move apart, copies merged or kept apart
+abbrev pub ChoosingCall : Choice → List ℕ → FirstsMemory → Outcome GraphSize FirstsMemory → Type 0
+ChoosingCall choice s memory outcome = Lists (firstsRead s memory) (LinkedBy choice Apart) (λ ts ps. firstsGraphOf ts ps memory) memory outcome
+
+-- graph call: copies are merged
+abbrev pub GraphCall : List ℕ → FirstsMemory → Outcome GraphSize FirstsMemory → Type 0
+GraphCall s memory outcome = ChoosingCall merged s memory outcome
 
 -- lent to the islands call: the graph call's slices, and 160 numbers for the islands'
 abbrev pub islandsSlices : IslandsMemory → List Slice
-islandsSlices memory = graphSlices (memory .graph) ++ ((maxTrees, length (memory .islands)) ∷ [])
+islandsSlices memory = firstsSlices (memory .lists) ++ ((maxTrees, length (memory .islands)) ∷ [])
 
 -- what the islands call reads
 abbrev pub islandsRead : List ℕ → IslandsMemory → Answer (List Tree)
@@ -153,11 +171,11 @@ islandsRead s memory = lent (enough (islandsSlices memory)) (tableRead s)
 -- the graph of the trees ts with the pairs ps, and the islands' numbers ms
 abbrev pub islandGraphOf : List Tree → List Pair → List ℕ → IslandsMemory → Outcome GraphSize IslandsMemory
 islandGraphOf ts ps ms memory =
-    let graph : Outcome GraphSize GraphMemory = graphOf ts ps (memory .graph) in
-    record { answer = graph .answer; memory = record { graph = graph .memory; islands = written ms (memory .islands) } }
+    let graph : Outcome GraphSize FirstsMemory = firstsGraphOf ts ps (memory .lists) in
+    record { answer = graph .answer; memory = record { lists = graph .memory; islands = written ms (memory .islands) } }
 
--- islands call: the graph call's pairs, and for each position the number of its island
+-- islands call: what the graph call gives, and for each position the number of its island
 pub data IslandsCall (s : List ℕ) (memory : IslandsMemory) : Outcome GraphSize IslandsMemory → Type 0 where
-  numbers : (ts : List Tree) (ps : List Pair) (ms : List ℕ) → islandsRead s memory ≡ accepted ts → Listing (length ts) (At Apart ts) ps → Islands (length ts) (Joined ps) ms
+  numbers : (ts : List Tree) (ps : List Pair) (ms : List ℕ) → islandsRead s memory ≡ accepted ts → Listing (length ts) (LinkedBy merged Apart ts) ps → MergedIslands ts ps ms
       → IslandsCall s memory (islandGraphOf ts ps ms memory)
   refuses : (n i p : ℕ) → islandsRead s memory ≡ refusal n i p → IslandsCall s memory (record { answer = refusal n i p; memory = memory })

@@ -8,8 +8,9 @@ use lib.ListN.{length}
 use Rattle.meaning.specs.Bytes.{bytes}
 use Rattle.meaning.specs.Tree.{Tree}
 use Rattle.meaning.specs.Move.{Apart}
-use Rattle.meaning.specs.Listing.{Pair, Listing, At}
-use Rattle.meaning.specs.Islands.{Joined, Islands, size}
+use Rattle.meaning.specs.Listing.{Pair, Listing}
+use Rattle.meaning.specs.Islands.{size}
+use Rattle.meaning.specs.Copies.{merged, LinkedBy, MergedIslands}
 use Rattle.meaning.specs.Sheet.{twoFields, Printout}
 
 -- for an island its number and size
@@ -29,9 +30,9 @@ linesFrom ms i (x ∷ xs) = lineAt ms i x ++ linesFrom ms (suc i) xs
 abbrev pub islandLines : List ℕ → List ℕ
 islandLines ms = linesFrom ms 0 ms
 
--- the lines of the trees ts, joined by chains of the pairs that are one move apart
+-- the lines of the trees ts, joined by chains of the merged pairs that are one move apart
 pub data IslandSheetOf (ts : List Tree) : List ℕ → Type 0 where
-  shows-islands : (ps : List Pair) (ms : List ℕ) → Listing (length ts) (At Apart ts) ps → Islands (length ts) (Joined ps) ms → IslandSheetOf ts (islandLines ms)
+  shows-islands : (ps : List Pair) (ms : List ℕ) → Listing (length ts) (LinkedBy merged Apart ts) ps → MergedIslands ts ps ms → IslandSheetOf ts (islandLines ms)
 
 -- what the islands program prints for the text s
 abbrev pub IslandSheet : List ℕ → List ℕ → Type 0

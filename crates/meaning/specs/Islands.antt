@@ -7,7 +7,7 @@ use mathlib.Core.List.{List, [], _∷_, map, List·Memᴰ}
 use Prim.Native.Nat.{ℕ, _≤_, _<_, min, max}
 use lib.Dec.{eqb}
 use lib.ListN.{length, getD}
-use Rattle.meaning.specs.Lists.{count, positions}
+use Rattle.meaning.specs.Lists.{count}
 use Rattle.meaning.specs.Listing.{Pair}
 
 -- i and j are a listed pair, in either direction
@@ -33,7 +33,7 @@ pub record Islands (k : ℕ) (Joins : ℕ → ℕ → Type 0) (ms : List ℕ) : 
 abbrev pub size : List ℕ → ℕ → ℕ
 size ms m = count (λ x. eqb x m) ms
 
--- ---- how they are found: each position begins as an island of its own, and each pair makes two islands one
+-- ---- how they are found: each topology begins as an island of its own, and each pair makes two islands one
 -- `to` in place of `from`
 abbrev pub renumbered : ℕ → ℕ → ℕ → ℕ
 renumbered from to x = cond (eqb x from) to x
@@ -50,10 +50,6 @@ unite ms i j = united (getD ms i 0) (getD ms j 0) ms
 abbrev pub uniteAll : List ℕ → List Pair → List ℕ
 uniteAll ms [] = ms
 uniteAll ms (p ∷ ps) = uniteAll (unite ms (p .0) (p .1)) ps
-
--- the islands' numbers of k positions with the pairs ps
-abbrev pub islandsOf : ℕ → List Pair → List ℕ
-islandsOf k ps = uniteAll (positions k) ps
 
 -- the pairs are of positions below k
 abbrev pub Within : ℕ → List Pair → Type 0

@@ -11,8 +11,8 @@ use Rattle.meaning.specs.Bytes.{bytes}
 use Rattle.meaning.specs.Tree.{Tree}
 use Rattle.meaning.specs.Listing.{Pair}
 use Rattle.meaning.specs.Decide.{shared}
-use Rattle.meaning.specs.Answer.{accepted, refusal, TableMemory, GraphMemory, written}
-use Rattle.meaning.specs.Calls.{formCall, cutCall, pairRead, PairCall, tableCall, graphOf, GraphCall}
+use Rattle.meaning.specs.Answer.{accepted, refusal, TableMemory, FirstsMemory, written}
+use Rattle.meaning.specs.Calls.{formCall, cutCall, pairRead, PairCall, tableCall, firstsGraphOf, GraphCall}
 
 -- a text and what a call gives for it
 pub data Sample : Type 0 where
@@ -38,7 +38,8 @@ Claim (yes-apart x y) = PairCall (bytes x) (bytes y) (accepted true)
 Claim (no-apart x y) = PairCall (bytes x) (bytes y) (accepted false)
 Claim (shares x y n) = (t : Tree) × (u : Tree) × (pairRead (bytes x) (bytes y) ≡ accepted (t, u)) × (shared t u ≡ n)
 Claim (lists x k ps) =
-    (memory : GraphMemory) → pairNumbers ≤ length (memory .pairs) → maxTrees ≤ length (memory .counts) → (ts : List Tree) × (length ts ≡ k) × GraphCall (bytes x) memory (graphOf ts ps memory)
+    (memory : FirstsMemory) → pairNumbers ≤ length (memory .graph .pairs) → maxTrees ≤ length (memory .graph .counts) → maxTrees ≤ length (memory .firsts)
+    → (ts : List Tree) × (length ts ≡ k) × GraphCall (bytes x) memory (firstsGraphOf ts ps memory)
 
 -- all of them hold
 abbrev pub AllHold : List Sample → Type 0

@@ -4,12 +4,12 @@ use mathlib.Core.Path.{_≡_, refl, sym, ap, _∙_}
 use mathlib.Core.Bool.{Bool, true, false}
 use mathlib.Core.List.{List}
 use Prim.Native.Nat.{ℕ, zero, suc}
-use Rattle.meaning.specs.Answer.{Answer, accepted, refusal, Outcome, TableSize, TableMemory, GraphSize, GraphMemory, IslandsMemory}
-use Rattle.meaning.specs.Tree.{Tree}
-use Rattle.meaning.specs.Calls.{PairCall, GraphBy, IslandsCall}
+use Rattle.meaning.specs.Answer.{Answer, accepted, refusal, Outcome, TableSize, TableMemory, GraphSize, GraphMemory, FirstsMemory, IslandsMemory}
+use Rattle.meaning.specs.Copies.{Choice}
+use Rattle.meaning.specs.Calls.{PairCall, InterchangeCall, ChoosingCall, IslandsCall}
 use Rattle.meaning.specs.Sheet.{SheetCall}
-use Rattle.meaning.proofs.Determined.{pair-determined, graph-determined, islands-determined, sheet-call-determined}
-use Rattle.norbelath.specs.Coded.{coded, textValue, pairValue, tableValue, graphValue, textCoded, tableCoded, graphCoded, islandsCoded}
+use Rattle.meaning.proofs.Determined.{pair-determined, lists-determined, islands-determined, sheet-call-determined}
+use Rattle.norbelath.specs.Coded.{coded, textValue, pairValue, tableValue, graphValue, textCoded, tableCoded, graphCoded, firstsCoded, islandsCoded}
 use Rattle.norbelath.specs.declared.Reply.{Reply}
 
 abbrev pub reply : ℕ → ℕ → ℕ → Reply
@@ -80,23 +80,36 @@ module _ {r r′ x x′ y y′ : ℕ} where
         ap (λ (z : Outcome TableSize TableMemory). z .memory .ends) h,
       )
 
-  pub graph-code-determined : {R : Tree → Tree → Type 0} {s : List ℕ} {memory : GraphMemory} {pairs pairs′ counts counts′ : List ℕ}
-      → GraphBy R s memory (graphCoded r x y pairs counts) → GraphBy R s memory (graphCoded r′ x′ y′ pairs′ counts′)
+  pub interchange-code-determined : (s : List ℕ) (memory : GraphMemory) {pairs pairs′ counts counts′ : List ℕ}
+      → InterchangeCall s memory (graphCoded r x y pairs counts) → InterchangeCall s memory (graphCoded r′ x′ y′ pairs′ counts′)
       → (reply r x y ≡ reply r′ x′ y′) × (pairs ≡ pairs′) × (counts ≡ counts′)
-  graph-code-determined e f =
-      let h = graph-determined e f in (
+  interchange-code-determined s memory e f =
+      let h = lists-determined e f in (
         sym (graph-back r x y) ∙ ap (λ (z : Outcome GraphSize GraphMemory). graphNumbers (z .answer)) h ∙ graph-back r′ x′ y′,
         ap (λ (z : Outcome GraphSize GraphMemory). z .memory .pairs) h,
         ap (λ (z : Outcome GraphSize GraphMemory). z .memory .counts) h,
       )
 
-  pub islands-code-determined : {s : List ℕ} {memory : IslandsMemory} {pairs pairs′ counts counts′ islands islands′ : List ℕ}
-      → IslandsCall s memory (islandsCoded r x y pairs counts islands) → IslandsCall s memory (islandsCoded r′ x′ y′ pairs′ counts′ islands′)
-      → (reply r x y ≡ reply r′ x′ y′) × (pairs ≡ pairs′) × (counts ≡ counts′) × (islands ≡ islands′)
+  -- the graph call, with either choice
+  pub graph-code-determined : (choice : Choice) (s : List ℕ) (memory : FirstsMemory) {pairs pairs′ counts counts′ firsts firsts′ : List ℕ}
+      → ChoosingCall choice s memory (firstsCoded r x y pairs counts firsts) → ChoosingCall choice s memory (firstsCoded r′ x′ y′ pairs′ counts′ firsts′)
+      → (reply r x y ≡ reply r′ x′ y′) × (pairs ≡ pairs′) × (counts ≡ counts′) × (firsts ≡ firsts′)
+  graph-code-determined choice s memory e f =
+      let h = lists-determined e f in (
+        sym (graph-back r x y) ∙ ap (λ (z : Outcome GraphSize FirstsMemory). graphNumbers (z .answer)) h ∙ graph-back r′ x′ y′,
+        ap (λ (z : Outcome GraphSize FirstsMemory). z .memory .graph .pairs) h,
+        ap (λ (z : Outcome GraphSize FirstsMemory). z .memory .graph .counts) h,
+        ap (λ (z : Outcome GraphSize FirstsMemory). z .memory .firsts) h,
+      )
+
+  pub islands-code-determined : {s : List ℕ} {memory : IslandsMemory} {pairs pairs′ counts counts′ firsts firsts′ islands islands′ : List ℕ}
+      → IslandsCall s memory (islandsCoded r x y pairs counts firsts islands) → IslandsCall s memory (islandsCoded r′ x′ y′ pairs′ counts′ firsts′ islands′)
+      → (reply r x y ≡ reply r′ x′ y′) × (pairs ≡ pairs′) × (counts ≡ counts′) × (firsts ≡ firsts′) × (islands ≡ islands′)
   islands-code-determined e f =
       let h = islands-determined e f in (
         sym (graph-back r x y) ∙ ap (λ (z : Outcome GraphSize IslandsMemory). graphNumbers (z .answer)) h ∙ graph-back r′ x′ y′,
-        ap (λ (z : Outcome GraphSize IslandsMemory). z .memory .graph .pairs) h,
-        ap (λ (z : Outcome GraphSize IslandsMemory). z .memory .graph .counts) h,
+        ap (λ (z : Outcome GraphSize IslandsMemory). z .memory .lists .graph .pairs) h,
+        ap (λ (z : Outcome GraphSize IslandsMemory). z .memory .lists .graph .counts) h,
+        ap (λ (z : Outcome GraphSize IslandsMemory). z .memory .lists .firsts) h,
         ap (λ (z : Outcome GraphSize IslandsMemory). z .memory .islands) h,
       )

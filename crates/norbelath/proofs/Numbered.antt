@@ -8,10 +8,12 @@ use lib.Dec.{T, leb, leb→le}
 use Rattle.meaning.specs.Lists.{every}
 use Rattle.meaning.specs.Tree.{Tree, form}
 use Rattle.meaning.specs.Move.{cutAt, forest}
-use Rattle.meaning.specs.Answer.{Answer, Outcome, TableMemory, GraphSize, GraphMemory, IslandsMemory, textOf, conclude}
-use Rattle.meaning.specs.Calls.{formCall, cutCall, PairCall, is-apart, not-apart, tableOf, tableCall, GraphBy, lists, IslandsCall, numbers}
+use Rattle.meaning.specs.Answer.{Answer, Outcome, TableMemory, GraphSize, GraphMemory, FirstsMemory, IslandsMemory, textOf, conclude}
+use Rattle.meaning.specs.Calls.{formCall, cutCall, PairCall, is-apart, not-apart, tableOf, tableCall, Lists, lists, InterchangeCall, ChoosingCall, IslandsCall, numbers}
+use Rattle.meaning.specs.Copies.{Choice}
+use Rattle.meaning.specs.Listing.{Pair}
 use Rattle.meaning.specs.Sheet.{SheetCall, gives}
-use Rattle.meaning.proofs.Calls.{Tells, accepts, denies, tells-refusal, form-tells, cut-tells, pair-tells, table-call-tells, graph-tells, islands-tells, sheet-call-tells}
+use Rattle.meaning.proofs.Calls.{Tells, accepts, denies, tells-refusal, form-tells, cut-tells, pair-tells, table-call-tells, graph-tells, firsts-tells, islands-tells, sheet-call-tells}
 use Rattle.meaning.proofs.Lists.{every-mem}
 use Rattle.norbelath.specs.Coded.{Numbered}
 
@@ -39,9 +41,18 @@ pair-numbered (is-apart t u e h) = tt
 pair-numbered (not-apart t u e h) = tt
 pair-numbered {s} {s′} (PairCall.refuses n i p e) = from-one tt (tells-refusal (pair-tells s s′) e .number)
 
-pub graph-numbered : {R : Tree → Tree → Type 0} {s : List ℕ} {memory : GraphMemory} {o : Outcome GraphSize GraphMemory} → GraphBy R s memory o → Numbered (o .answer)
-graph-numbered (lists ts ps e L) = tt
-graph-numbered {s} {memory} (GraphBy.refuses n i p e) = from-one tt (tells-refusal (graph-tells s memory) e .number)
+-- a call that lists pairs, of what it reads
+lists-numbered : {M : Type 0} {P : List Tree → Type 0} {Q : ℕ → ℕ → ℕ → Type 0} {read : Answer (List Tree)} {Linked : List Tree → ℕ → ℕ → Type 0}
+    {left : List Tree → List Pair → Outcome GraphSize M} {memory : M} {o : Outcome GraphSize M}
+    → ((ts : List Tree) (ps : List Pair) → Numbered (left ts ps .answer)) → Tells P Q read → ((n i p : ℕ) → Q n i p → 1 ≤ n) → Lists read Linked left memory o → Numbered (o .answer)
+lists-numbered value tells line (lists ts ps e L) = value ts ps
+lists-numbered value tells line (Lists.refuses n i p e) = line n i p (tells-refusal tells e)
+
+pub interchange-numbered : (s : List ℕ) (memory : GraphMemory) {o : Outcome GraphSize GraphMemory} → InterchangeCall s memory o → Numbered (o .answer)
+interchange-numbered s memory h = lists-numbered (λ ts ps. tt) (graph-tells s memory) (λ n i p l. from-one tt (l .number)) h
+
+pub graph-numbered : (choice : Choice) (s : List ℕ) (memory : FirstsMemory) {o : Outcome GraphSize FirstsMemory} → ChoosingCall choice s memory o → Numbered (o .answer)
+graph-numbered choice s memory h = lists-numbered (λ ts ps. tt) (firsts-tells s memory) (λ n i p l. from-one tt (l .number)) h
 
 pub islands-numbered : {s : List ℕ} {memory : IslandsMemory} {o : Outcome GraphSize IslandsMemory} → IslandsCall s memory o → Numbered (o .answer)
 islands-numbered (numbers ts ps ms e L I) = tt

@@ -3,7 +3,8 @@
 use mathlib.Core.Bool.{Bool, true, false}
 use mathlib.Core.List.{List}
 use Prim.Native.Nat.{ℕ, zero, suc, _≤_}
-use Rattle.meaning.specs.Answer.{Answer, accepted, refusal, Outcome, TableSize, TableMemory, GraphSize, GraphMemory, IslandsMemory}
+use Rattle.meaning.specs.Answer.{Answer, accepted, refusal, Outcome, TableSize, TableMemory, GraphSize, GraphMemory, FirstsMemory, IslandsMemory}
+use Rattle.meaning.specs.Copies.{Choice, merged, kept-apart}
 
 -- result 0: accepted, and the numbers say what; else the refusal's number, and the numbers are which text and the place
 abbrev pub coded : {A : Type 0} → (ℕ → ℕ → Answer A) → ℕ → ℕ → ℕ → Answer A
@@ -28,7 +29,7 @@ pairValue x (suc y) = refusal 0 x (suc y)
 abbrev pub tableValue : ℕ → ℕ → Answer TableSize
 tableValue x y = accepted (record { bytes = x; trees = y })
 
--- the graph call, the interchange call and the islands call: the trees, and the pairs
+-- the calls that list pairs: the trees, and the pairs
 abbrev pub graphValue : ℕ → ℕ → Answer GraphSize
 graphValue x y = accepted (record { trees = x; pairs = y })
 
@@ -42,8 +43,19 @@ tableCoded r x y texts ends = record { answer = coded tableValue r x y; memory =
 abbrev pub graphCoded : ℕ → ℕ → ℕ → List ℕ → List ℕ → Outcome GraphSize GraphMemory
 graphCoded r x y pairs counts = record { answer = coded graphValue r x y; memory = record { pairs = pairs; counts = counts } }
 
-abbrev pub islandsCoded : ℕ → ℕ → ℕ → List ℕ → List ℕ → List ℕ → Outcome GraphSize IslandsMemory
-islandsCoded r x y pairs counts islands = record { answer = coded graphValue r x y; memory = record { graph = record { pairs = pairs; counts = counts }; islands = islands } }
+-- a choice: 0 merges copies, any other number keeps them apart
+abbrev pub choiceCoded : ℕ → Choice
+choiceCoded zero = merged
+choiceCoded (suc n) = kept-apart
+
+abbrev pub firstsCoded : ℕ → ℕ → ℕ → List ℕ → List ℕ → List ℕ → Outcome GraphSize FirstsMemory
+firstsCoded r x y pairs counts firsts = record { answer = coded graphValue r x y; memory = record { graph = record { pairs = pairs; counts = counts }; firsts = firsts } }
+
+abbrev pub islandsCoded : ℕ → ℕ → ℕ → List ℕ → List ℕ → List ℕ → List ℕ → Outcome GraphSize IslandsMemory
+islandsCoded r x y pairs counts firsts islands = record {
+  answer = coded graphValue r x y;
+  memory = record { lists = record { graph = record { pairs = pairs; counts = counts }; firsts = firsts }; islands = islands };
+}
 
 -- what is asked of an answer that is to be coded: a refusal's number is not 0
 abbrev pub Numbered : {A : Type 0} → Answer A → Type 0

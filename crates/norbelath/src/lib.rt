@@ -1,15 +1,17 @@
-// The eight calls for programs in C and Rust. None asks anything of its caller. Each answers by a result and two lent
+// The nine calls for programs in C and Rust. None asks anything of its caller. Each answers by a result and two lent
 // numbers: `coded` in specs/ says which answer they are, and include/norbelath.h says it to a caller.
 use calls::GraphAnswer;
 use calls::PairAnswer;
 use calls::TableAnswer;
 use calls::TextAnswer;
+use graph::Copies;
 use reading::Refusal;
 ghost use mathlib.Core.Path.{_≡_};
-ghost use Rattle.meaning.specs.Calls.{formCall, cutCall, PairCall, tableCall, GraphCall, InterchangeCall, IslandsCall};
+ghost use Rattle.meaning.specs.Calls.{formCall, cutCall, PairCall, tableCall, InterchangeCall, ChoosingCall, GraphCall, IslandsCall};
 ghost use Rattle.meaning.specs.Sheet.{SheetCall};
+ghost use Rattle.graph.specs.Copies.{choiceOf};
 ghost use Rattle.calls.specs.Paper.{textAnswer, pairAnswer, tableAnswer, graphAnswer};
-ghost use Rattle.norbelath.specs.Coded.{coded, textValue, pairValue, tableValue, graphValue, textCoded, tableCoded, graphCoded, islandsCoded, Numbered};
+ghost use Rattle.norbelath.specs.Coded.{coded, textValue, pairValue, tableValue, graphValue, textCoded, tableCoded, graphCoded, choiceCoded, firstsCoded, islandsCoded, Numbered};
 
 // A result and the two numbers beside it.
 struct Reply {
@@ -149,21 +151,58 @@ pub extern "C" fn norbelath_table(
     )
 }
 
+// What becomes of copies: 0 merges them, and any other number keeps them apart.
+fn copies_of(choice: u8) -> Copies
+    ensures { λ r. ⌜ choiceOf r ≡ choiceCoded choice ⌝ }
+{
+    if choice == 0 {
+        Copies::Merged
+    } else {
+        Copies::KeptApart
+    }
+}
+
+// Graph call with a stated choice: the numbers are the trees and the pairs.
+#[no_mangle]
+pub extern "C" fn norbelath_graph_choosing(
+    text: &[u8],
+    choice: u8,
+    pairs: &mut [u16],
+    counts: &mut [u16],
+    firsts: &mut [u16],
+    first: &mut u64,
+    second: &mut u64,
+) -> u8
+    ensures { λ r. ⌜
+        ChoosingCall (choiceCoded choice) (now (text .entry))
+        (record { graph = record { pairs = now (pairs .entry); counts = now (counts .entry) }; firsts = now (firsts .entry) })
+        (firstsCoded r (now (first .exit)) (now (second .exit)) (now (pairs .exit)) (now (counts .exit)) (now (firsts .exit))) ⌝ }
+{
+    let copies = copies_of(choice);
+    hand_back(
+        graph_reply(calls::graph_call_choosing(text, copies, pairs, counts, firsts)),
+        first,
+        second,
+    )
+}
+
 // Graph call: the numbers are the trees and the pairs.
 #[no_mangle]
 pub extern "C" fn norbelath_graph(
     text: &[u8],
     pairs: &mut [u16],
     counts: &mut [u16],
+    firsts: &mut [u16],
     first: &mut u64,
     second: &mut u64,
 ) -> u8
     ensures { λ r. ⌜
-        GraphCall (now (text .entry)) (record { pairs = now (pairs .entry); counts = now (counts .entry) })
-        (graphCoded r (now (first .exit)) (now (second .exit)) (now (pairs .exit)) (now (counts .exit))) ⌝ }
+        GraphCall (now (text .entry))
+        (record { graph = record { pairs = now (pairs .entry); counts = now (counts .entry) }; firsts = now (firsts .entry) })
+        (firstsCoded r (now (first .exit)) (now (second .exit)) (now (pairs .exit)) (now (counts .exit)) (now (firsts .exit))) ⌝ }
 {
     hand_back(
-        graph_reply(calls::graph_call(text, pairs, counts)),
+        graph_reply(calls::graph_call(text, pairs, counts, firsts)),
         first,
         second,
     )
@@ -195,17 +234,21 @@ pub extern "C" fn norbelath_islands(
     text: &[u8],
     pairs: &mut [u16],
     counts: &mut [u16],
+    firsts: &mut [u16],
     islands: &mut [u16],
     first: &mut u64,
     second: &mut u64,
 ) -> u8
     ensures { λ r. ⌜
         IslandsCall (now (text .entry))
-        (record { graph = record { pairs = now (pairs .entry); counts = now (counts .entry) }; islands = now (islands .entry) })
-        (islandsCoded r (now (first .exit)) (now (second .exit)) (now (pairs .exit)) (now (counts .exit)) (now (islands .exit))) ⌝ }
+        (record {
+          lists = record { graph = record { pairs = now (pairs .entry); counts = now (counts .entry) }; firsts = now (firsts .entry) };
+          islands = now (islands .entry);
+        })
+        (islandsCoded r (now (first .exit)) (now (second .exit)) (now (pairs .exit)) (now (counts .exit)) (now (firsts .exit)) (now (islands .exit))) ⌝ }
 {
     hand_back(
-        graph_reply(calls::islands_call(text, pairs, counts, islands)),
+        graph_reply(calls::islands_call(text, pairs, counts, firsts, islands)),
         first,
         second,
     )

@@ -3,6 +3,7 @@ use calls::GraphAnswer;
 use calls::PairAnswer;
 use calls::TableAnswer;
 use calls::TextAnswer;
+use graph::Copies;
 use held::Table;
 use held::Tree;
 use libc::STDOUT_FILENO;
@@ -127,27 +128,51 @@ fn print_counts(counts: &[u16], number: usize) {
     }
 }
 
-fn print_graph(answer: GraphAnswer, pairs: &[u16], counts: &[u16]) {
+fn print_lists(trees: usize, number: usize, pairs: &[u16], counts: &[u16]) {
+    print_number(trees);
+    print(b" trees, pairs");
+    print_pairs(pairs, number);
+    print(b", counts");
+    print_counts(counts, trees);
+}
+
+// The graph call, which merges copies, or the same with copies kept apart.
+fn chosen_graph(text: &[u8], copies: Copies) {
+    let mut pairs = [0u16; Table::PAIR_NUMBERS];
+    let mut counts = [0u16; Table::MAX_TREES];
+    let mut firsts = [0u16; Table::MAX_TREES];
+    let answer = calls::graph_call_choosing(text, copies, &mut pairs, &mut counts, &mut firsts);
     match answer {
         GraphAnswer::Listed(trees, number) => {
-            print_number(trees);
-            print(b" trees, pairs");
-            print_pairs(pairs, number);
-            print(b", counts");
-            print_counts(counts, trees);
+            print_lists(trees, number, &pairs, &counts);
+            print(b", firsts");
+            print_counts(&firsts, trees);
             print(b"\n");
         }
         GraphAnswer::Refused(x) => print_refusal(x),
     }
 }
 
-// The islands call's pairs are the graph call's, so the islands' numbers are printed alone.
+fn interchanges(text: &[u8]) {
+    let mut pairs = [0u16; Table::PAIR_NUMBERS];
+    let mut counts = [0u16; Table::MAX_TREES];
+    let answer = calls::interchange_call(text, &mut pairs, &mut counts);
+    match answer {
+        GraphAnswer::Listed(trees, number) => {
+            print_lists(trees, number, &pairs, &counts);
+            print(b"\n");
+        }
+        GraphAnswer::Refused(x) => print_refusal(x),
+    }
+}
+
+// The islands call's lists are the graph call's, so the islands' numbers are printed alone.
 fn islands(text: &[u8]) {
     let mut pairs = [0u16; Table::PAIR_NUMBERS];
     let mut counts = [0u16; Table::MAX_TREES];
+    let mut firsts = [0u16; Table::MAX_TREES];
     let mut numbers = [0u16; Table::MAX_TREES];
-    print(b"islands : ");
-    let answer = calls::islands_call(text, &mut pairs, &mut counts, &mut numbers);
+    let answer = calls::islands_call(text, &mut pairs, &mut counts, &mut firsts, &mut numbers);
     match answer {
         GraphAnswer::Listed(trees, number) => {
             print_number(trees);
@@ -169,18 +194,17 @@ fn print_island_sheet(text: &[u8]) {
     print(&out[..n]);
 }
 
-// The graph call, and the interchange call in the same slices; then the islands.
+// What the calls that list pairs give for a table.
 fn graph(text: &[u8]) {
-    let mut pairs = [0u16; Table::PAIR_NUMBERS];
-    let mut counts = [0u16; Table::MAX_TREES];
     print(b"graph ");
     print(text);
     print(b" : ");
-    let answer = calls::graph_call(text, &mut pairs, &mut counts);
-    print_graph(answer, &pairs, &counts);
+    chosen_graph(text, Copies::Merged);
+    print(b"copies kept apart : ");
+    chosen_graph(text, Copies::KeptApart);
     print(b"interchanges : ");
-    let answer = calls::interchange_call(text, &mut pairs, &mut counts);
-    print_graph(answer, &pairs, &counts);
+    interchanges(text);
+    print(b"islands : ");
     islands(text);
     print_island_sheet(text);
 }

@@ -14,7 +14,9 @@ use Rattle.meaning.specs.Islands.{size}
 use Rattle.meaning.specs.IslandSheet.{islandLine, lineAt, islandLines, IslandSheetOf, shows-islands}
 use Rattle.meaning.specs.Answer.{GraphMemory}
 use Rattle.meaning.specs.Tree.{Tree as Topology}
+use Rattle.meaning.specs.Move.{Apart}
 use Rattle.meaning.proofs.Islands.{number-below}
+use Rattle.meaning.proofs.MergedIslands.{merged-together}
 use Rattle.lent.specs.Runs.{Wrote}
 use Rattle.lent.specs.Tallies.{TallyRoom, Tallied}
 use Rattle.lent.proofs.Runs.{sets-at, written-first, wrote-length}
@@ -75,7 +77,7 @@ module _ {numbers : List ℕ} {n len : ℕ} (f : IslandLinesFit numbers n len) w
       rw (lines-rows (take n numbers) 0 (take n numbers)) (turns-wrote (lineAt (take n numbers)) (take n numbers) all w)
 
 -- ---- the islands of a table's trees, whose numbers were written into an array of zeros
-module _ {table : Table} {memory memory′ : GraphMemory} {numbers : List ℕ} {m : ℕ} (g : IslandsWritten table memory memory′ (replicate maxTrees 0) numbers m) where
+module _ {table : Table} {memory memory′ : GraphMemory} {firsts firsts′ numbers : List ℕ} {m : ℕ} (g : IslandsWritten table memory memory′ firsts firsts′ (replicate maxTrees 0) numbers m) where
   module _ (ts : List Topology) (h : KeepsAll table ts) where
     abbrev ms : List ℕ
     ms = g ts h .numbers
@@ -96,11 +98,11 @@ module _ {table : Table} {memory memory′ : GraphMemory} {numbers : List ℕ} {
     numbered-fits room = record {
       few = omega (arith, h .count, h .few);
       lent = omega (arith, wrote-length (g ts h .in-islands), many, fits);
-      below = λ i l. omega (arith, number-is i l, number-below (g ts h .found) i (omega (arith, h .count)), h .few);
+      below = λ i l. omega (arith, number-is i l, number-below (merged-together ts Apart (g ts h .merged .graph .listing) (g ts h .found)) i (omega (arith, h .count)), h .few);
       room = room;
     }
 
   pub islands-shown : {out out′ : List ℕ} {r : ℕ} → Wrote (islandLines (take (table .len) numbers)) out out′ 0 r → ShownAll IslandSheetOf table out out′ r
   islands-shown w ts h =
       let G = g ts h in
-      record { bytes = islandLines (G .numbers); shows = shows-islands (G .graph .linked) (G .numbers) (G .graph .listing) (G .found); wrote = rw (numbered ts h) at w }
+      record { bytes = islandLines (G .numbers); shows = shows-islands (G .merged .graph .linked) (G .numbers) (G .merged .graph .listing) (G .found); wrote = rw (numbered ts h) at w }

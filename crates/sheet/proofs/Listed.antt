@@ -11,7 +11,7 @@ use Rattle.meaning.proofs.Counts.{counts-length, counts-at}
 use Rattle.held.specs.declared.Table.{Table}
 use Rattle.sheet.specs.Lines.{TreesListed}
 
-module _ {table : Table} {numbers : List ℕ} {ts : List Topology} {ps : List Pair} (L : TreesListed table numbers ts ps) where
+module _ {table : Table} {numbers firsts : List ℕ} {ts : List Topology} {ps : List Pair} (L : TreesListed table numbers firsts ts ps) where
   pub numbers-long : length ts ≤ length numbers
   numbers-long = omega (arith, ap length (L .counted .1), length-append (counts (length ts) ps) (L .counted .0), counts-length (length ts) ps)
 

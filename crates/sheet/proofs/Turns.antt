@@ -34,10 +34,10 @@ good-one (t ∷ ts) G (List·Memᴰ·head e) = rw e (G .0)
 good-one (t ∷ ts) G (List·Memᴰ·tail m) = good-one ts (G .1) m
 
 -- the array `others` begins with the unlinked numbers of the table's trees
-abbrev pub OthersNoted : Table → List ℕ → List ℕ → Type 0
-OthersNoted table numbers others = (ts : List Topology) (ps : List Pair) → TreesListed table numbers ts ps → Wrote (unlinkedNumbers ts ps) (replicate maxTrees 0) others 0 (length ts)
+abbrev pub OthersNoted : Table → List ℕ → List ℕ → List ℕ → Type 0
+OthersNoted table numbers firsts others = (ts : List Topology) (ps : List Pair) → TreesListed table numbers firsts ts ps → Wrote (unlinkedNumbers ts ps) (replicate maxTrees 0) others 0 (length ts)
 
-pub others-few : {table : Table} {numbers others : List ℕ} {ts : List Topology} {ps : List Pair} → OthersNoted table numbers others → TreesListed table numbers ts ps
+pub others-few : {table : Table} {numbers firsts others : List ℕ} {ts : List Topology} {ps : List Pair} → OthersNoted table numbers firsts others → TreesListed table numbers firsts ts ps
     → (i : ℕ) → i < length ts → getD others i 0 ≤ maxTrees
 others-few {ts} {ps} noted L i h =
     omega (arith, written-at (unlinked ts ps) (L .keeps .few) (noted ts ps L) i h, unlinked-neighbours-copies ts (keeps-good (L .keeps)) (L .listing) i h, L .keeps .few)
@@ -47,15 +47,15 @@ abbrev pub treeLineAt : List ℕ → List ℕ → ℕ → Topology → List ℕ
 treeLineAt numbers others i t = treeLine i (getD numbers i 0) (getD others i 0) t
 
 -- the lines of the first i trees are written
-abbrev pub TreesSoFar : Table → List ℕ → List ℕ → List ℕ → ℕ → ℕ → ℕ → Type 0
-TreesSoFar table numbers out o₁ at next i = (ts : List Topology) (ps : List Pair) → TreesListed table numbers ts ps → Wrote (rows (treeLineOf ts ps) 0 (take i ts)) out o₁ at next
+abbrev pub TreesSoFar : Table → List ℕ → List ℕ → List ℕ → List ℕ → ℕ → ℕ → ℕ → Type 0
+TreesSoFar table numbers firsts out o₁ at next i = (ts : List Topology) (ps : List Pair) → TreesListed table numbers firsts ts ps → Wrote (rows (treeLineOf ts ps) 0 (take i ts)) out o₁ at next
 
-module _ {table : Table} {numbers out o₁ : List ℕ} {at next i : ℕ} (w : TreesSoFar table numbers out o₁ at next i) where
-  module _ {others : List ℕ} (noted : OthersNoted table numbers others) (h : i < table .len) where
-    line-is : {ts : List Topology} {ps : List Pair} → TreesListed table numbers ts ps → treeLineAt numbers others i (treeOf ts i) ≡ treeLineOf ts ps i (treeOf ts i)
+module _ {table : Table} {numbers firsts out o₁ : List ℕ} {at next i : ℕ} (w : TreesSoFar table numbers firsts out o₁ at next i) where
+  module _ {others : List ℕ} (noted : OthersNoted table numbers firsts others) (h : i < table .len) where
+    line-is : {ts : List Topology} {ps : List Pair} → TreesListed table numbers firsts ts ps → treeLineAt numbers others i (treeOf ts i) ≡ treeLineOf ts ps i (treeOf ts i)
     line-is {ts} {ps} L = ap₂ (λ (n u : ℕ). treeLine i n u (treeOf ts i)) (counted L i h) (written-at (unlinked ts ps) (L .keeps .few) (noted ts ps L) i (inside L i h))
 
-    pub tree-fits : TreeLinesFit table numbers at (length out) → KeptRoom (λ t. next + length (treeLineAt numbers others i t)) (heldAt table i) (length o₁)
+    pub tree-fits : TreeLinesFit table numbers firsts at (length out) → KeptRoom (λ t. next + length (treeLineAt numbers others i t)) (heldAt table i) (length o₁)
     tree-fits f =
         let L = f .listed in
         let room : at + length (rows (treeLineOf (f .trees) (f .linked)) 0 (f .trees)) ≤ length out = rw (← trees-rows (f .trees) (f .linked) 0 (f .trees)) (f .room) in
@@ -66,11 +66,11 @@ module _ {table : Table} {numbers out o₁ : List ℕ} {at next i : ℕ} (w : Tr
         }
 
     pub trees-more : {o₂ : List ℕ} {r : ℕ} → ((t : Topology) → Keeps (heldAt table i) t → Wrote (treeLineAt numbers others i t) o₁ o₂ next r)
-        → TreesSoFar table numbers out o₂ at r (i + 1)
+        → TreesSoFar table numbers firsts out o₂ at r (i + 1)
     trees-more one ts ps L =
         turn-wrote (treeLineOf ts ps) (leaf 0) ts i (inside L i h) (w ts ps L) (rw (line-is L) at (one (treeOf ts i) (L .keeps .each i (inside L i h))))
 
-  pub trees-done : i ≤ table .len → table .len ≤ i → (ts : List Topology) (ps : List Pair) → TreesListed table numbers ts ps → Wrote (treeLines ts ps 0 ts) out o₁ at next
+  pub trees-done : i ≤ table .len → table .len ≤ i → (ts : List Topology) (ps : List Pair) → TreesListed table numbers firsts ts ps → Wrote (treeLines ts ps 0 ts) out o₁ at next
   trees-done h l ts ps L =
       let all : i ≡ length ts = omega (arith, L .keeps .count) in
       rw (trees-rows ts ps 0 ts) (turns-wrote (treeLineOf ts ps) ts all (w ts ps L))

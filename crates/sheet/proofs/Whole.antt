@@ -21,11 +21,11 @@ unfolding sheet
 sheet-length ts ps = simp length-append
 
 -- the lines of whatever trees the table keeps were written
-abbrev TreesWrote : Table → List ℕ → List ℕ → List ℕ → ℕ → ℕ → Type 0
-TreesWrote table numbers out out′ at r = (ts : List Topology) (ps : List Pair) → TreesListed table numbers ts ps → Wrote (treeLines ts ps 0 ts) out out′ at r
+abbrev TreesWrote : Table → List ℕ → List ℕ → List ℕ → List ℕ → ℕ → ℕ → Type 0
+TreesWrote table numbers firsts out out′ at r = (ts : List Topology) (ps : List Pair) → TreesListed table numbers firsts ts ps → Wrote (treeLines ts ps 0 ts) out out′ at r
 
 -- each part has room behind those before it
-module _ {table : Table} {pairs numbers : List ℕ} {m : ℕ} (out : List ℕ) (f : SheetFits table pairs numbers m (length out)) where
+module _ {table : Table} {pairs numbers firsts : List ℕ} {m : ℕ} (out : List ℕ) (f : SheetFits table pairs numbers firsts m (length out)) where
   all-fits : length (firstLine (table .len) m) + length (treeLines (f .trees) (f .linked) 0 (f .trees)) + length (pairLines (f .linked)) ≤ length out
   all-fits =
       let L = f .trees-listed in
@@ -36,17 +36,17 @@ module _ {table : Table} {pairs numbers : List ℕ} {m : ℕ} (out : List ℕ) (
   first-fits = omega (arith, all-fits)
 
   module _ {o₁ : List ℕ} {r₁ : ℕ} (first : Wrote (firstLine (table .len) m) out o₁ 0 r₁) where
-    pub trees-fit : TreeLinesFit table numbers r₁ (length o₁)
+    pub trees-fit : TreeLinesFit table numbers firsts r₁ (length o₁)
     trees-fit = record { trees = f .trees; linked = f .linked; listed = f .trees-listed; room = omega (arith, all-fits, first .behind, wrote-length first) }
 
-    pub pairs-fit : {o₂ : List ℕ} {r₂ : ℕ} → TreesWrote table numbers o₁ o₂ r₁ r₂ → PairLinesFit pairs m r₂ (length o₂)
+    pub pairs-fit : {o₂ : List ℕ} {r₂ : ℕ} → TreesWrote table numbers firsts o₁ o₂ r₁ r₂ → PairLinesFit pairs m r₂ (length o₂)
     pairs-fit lines =
         let trees = lines (f .trees) (f .linked) (f .trees-listed) in
         record { linked = f .linked; listed = f .pairs-listed; room = omega (arith, all-fits, first .behind, wrote-length first, trees .behind, wrote-length trees) }
 
 -- and together they are the sheet
-pub wrote-sheet : {table : Table} {pairs numbers : List ℕ} {m : ℕ} {out o₁ o₂ o₃ : List ℕ} {r₁ r₂ r₃ : ℕ} → Wrote (firstLine (table .len) m) out o₁ 0 r₁
-    → TreesWrote table numbers o₁ o₂ r₁ r₂ → ((ps : List Pair) → PairsListed pairs m ps → Wrote (pairLines ps) o₂ o₃ r₂ r₃)
-    → (ts : List Topology) (ps : List Pair) → TreesListed table numbers ts ps → PairsListed pairs m ps → Wrote (sheet ts ps) out o₃ 0 r₃
+pub wrote-sheet : {table : Table} {pairs numbers firsts : List ℕ} {m : ℕ} {out o₁ o₂ o₃ : List ℕ} {r₁ r₂ r₃ : ℕ} → Wrote (firstLine (table .len) m) out o₁ 0 r₁
+    → TreesWrote table numbers firsts o₁ o₂ r₁ r₂ → ((ps : List Pair) → PairsListed pairs m ps → Wrote (pairLines ps) o₂ o₃ r₂ r₃)
+    → (ts : List Topology) (ps : List Pair) → TreesListed table numbers firsts ts ps → PairsListed pairs m ps → Wrote (sheet ts ps) out o₃ 0 r₃
 unfolding sheet
 wrote-sheet first trees links ts ps L P = wrote-more (wrote-more (rw (L .keeps .count, P .many) at first) (trees ts ps L)) (links ps P)

@@ -9,22 +9,24 @@ use Rattle.meaning.specs.Tree.{Tree as Topology}
 use Rattle.meaning.specs.Move.{Apart}
 use Rattle.meaning.specs.Listing.{Pair, Listing, At, counts, unlinked}
 use Rattle.meaning.specs.Sheet.{treeLines, pairLines}
+use Rattle.meaning.specs.Copies.{firstsOf}
 use Rattle.lent.specs.Runs.{Stands}
 use Rattle.held.specs.Kept.{KeepsAll}
 use Rattle.held.specs.declared.Table.{Table}
 use Rattle.graph.specs.Listed.{PairsListed}
 
--- the table keeps the trees ts, and `numbers` begins with their neighbour counts among the listed pairs ps
-pub record TreesListed (table : Table) (numbers : List ℕ) (ts : List Topology) (ps : List Pair) : Type 0 where
+-- the table keeps the trees ts, `numbers` begins with their neighbour counts among the listed pairs ps, and `firsts` with the first position of each topology
+pub record TreesListed (table : Table) (numbers firsts : List ℕ) (ts : List Topology) (ps : List Pair) : Type 0 where
   pub keeps : KeepsAll table ts
   pub listing : Listing (length ts) (At Apart ts) ps
   pub counted : Stands numbers 0 (counts (length ts) ps)
+  pub noted : Stands firsts 0 (firstsOf ts)
 
 -- there is room for a number of each tree
-pub record UnlinkedRoom (table : Table) (numbers : List ℕ) (len : ℕ) : Type 0 where
+pub record UnlinkedRoom (table : Table) (numbers firsts : List ℕ) (len : ℕ) : Type 0 where
   pub trees : List Topology
   pub linked : List Pair
-  pub listed : TreesListed table numbers trees linked
+  pub listed : TreesListed table numbers firsts trees linked
   pub room : length trees ≤ len
 
 -- the unlinked numbers of the positions, in order
@@ -32,10 +34,10 @@ abbrev pub unlinkedNumbers : List Topology → List Pair → List ℕ
 unlinkedNumbers ts ps = map (unlinked ts ps) (positions (length ts))
 
 -- there is room for their lines
-pub record TreeLinesFit (table : Table) (numbers : List ℕ) (at len : ℕ) : Type 0 where
+pub record TreeLinesFit (table : Table) (numbers firsts : List ℕ) (at len : ℕ) : Type 0 where
   pub trees : List Topology
   pub linked : List Pair
-  pub listed : TreesListed table numbers trees linked
+  pub listed : TreesListed table numbers firsts trees linked
   pub room : at + length (treeLines trees linked 0 trees) ≤ len
 
 -- `numbers` begins with m pairs, and there is room for their lines
@@ -45,9 +47,9 @@ pub record PairLinesFit (numbers : List ℕ) (m at len : ℕ) : Type 0 where
   pub room : at + length (pairLines linked) ≤ len
 
 -- the trees of a table, their pairs and neighbour counts, and room for the longest sheet
-pub record SheetFits (table : Table) (pairs numbers : List ℕ) (m len : ℕ) : Type 0 where
+pub record SheetFits (table : Table) (pairs numbers firsts : List ℕ) (m len : ℕ) : Type 0 where
   pub trees : List Topology
   pub linked : List Pair
-  pub trees-listed : TreesListed table numbers trees linked
+  pub trees-listed : TreesListed table numbers firsts trees linked
   pub pairs-listed : PairsListed pairs m linked
   pub room : sheetBytes ≤ len

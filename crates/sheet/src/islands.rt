@@ -42,8 +42,9 @@ fn write_table_islands(out: &mut [u8], table: Table) -> usize
 {
     let mut pairs = [0u16; Table::PAIR_NUMBERS];
     let mut counts = [0u16; Table::MAX_TREES];
+    let mut firsts = [0u16; Table::MAX_TREES];
     let mut numbers = [0u16; Table::MAX_TREES];
-    graph::list_islands(&mut pairs, &mut counts, &mut numbers, table);
+    graph::list_islands(&mut pairs, &mut counts, &mut firsts, &mut numbers, table);
     write_island_lines(out, &numbers, table.len)
 }
 

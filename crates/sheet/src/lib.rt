@@ -2,6 +2,7 @@
 // place behind what it wrote.
 pub mod islands;
 
+use graph::Copies;
 use held::Table;
 use held::Tree;
 pub use islands::IslandSheet;
@@ -40,17 +41,15 @@ impl Sheet {
 
 // Writes the unlinked number of each tree, from the start of `unlinked` on: all trees less its neighbours, whose numbers
 // `counts` begins with, and less its copies, which are the trees with the same first position.
-fn note_unlinked(unlinked: &mut [u16], counts: &[u16], table: Table)
-    requires { ⌜ UnlinkedRoom table (now counts) (length (now unlinked)) ⌝ }
+fn note_unlinked(unlinked: &mut [u16], counts: &[u16], firsts: &[u16], table: Table)
+    requires { ⌜ UnlinkedRoom table (now counts) (now firsts) (length (now unlinked)) ⌝ }
     ensures { λ _. ⌜
-        ((ts : List Topology) (ps : List Pair) → TreesListed table (now (counts .entry)) ts ps
+        ((ts : List Topology) (ps : List Pair) → TreesListed table (now (counts .entry)) (now (firsts .entry)) ts ps
         → Wrote (unlinkedNumbers ts ps) (now (unlinked .entry)) (now (unlinked .exit)) 0 (length ts)) ⌝ }
 {
     let n = table.len;
-    let mut firsts = [0u16; Table::MAX_TREES];
-    held::note_firsts(&mut firsts, table);
     let mut copies = [0u16; Table::MAX_TREES];
-    lent::tally(&mut copies, &firsts, n);
+    lent::tally(&mut copies, firsts, n);
     for i in 0..n {
         let linked = counts[i] as usize;
         let same = copies[firsts[i] as usize] as usize;
@@ -58,15 +57,22 @@ fn note_unlinked(unlinked: &mut [u16], counts: &[u16], table: Table)
     }
 }
 
-// Writes a line for each tree of the table; the numbers in `counts` begin with their neighbour counts.
-fn write_tree_lines(out: &mut [u8], at: usize, table: Table, counts: &[u16]) -> usize
-    requires { ⌜ TreeLinesFit table (now counts) at (length (now out)) ⌝ }
+// Writes a line for each tree of the table; `counts` begins with their neighbour counts, and `firsts` with the first position
+// of each topology.
+fn write_tree_lines(
+    out: &mut [u8],
+    at: usize,
+    table: Table,
+    counts: &[u16],
+    firsts: &[u16],
+) -> usize
+    requires { ⌜ TreeLinesFit table (now counts) (now firsts) at (length (now out)) ⌝ }
     ensures { λ r. ⌜
-        ((ts : List Topology) (ps : List Pair) → TreesListed table (now (counts .entry)) ts ps
+        ((ts : List Topology) (ps : List Pair) → TreesListed table (now (counts .entry)) (now (firsts .entry)) ts ps
         → Wrote (treeLines ts ps 0 ts) (now (out .entry)) (now (out .exit)) at r) ⌝ }
 {
     let mut unlinked = [0u16; Table::MAX_TREES];
-    note_unlinked(&mut unlinked, counts, table);
+    note_unlinked(&mut unlinked, counts, firsts, table);
     let mut next = at;
     for i in 0..table.len {
         let neighbours = counts[i] as usize;
@@ -93,27 +99,43 @@ fn write_pair_lines(out: &mut [u8], at: usize, pairs: &[u16], m: usize) -> usize
     next
 }
 
-// Writes the sheet of the table's trees from the start of `out` on; m pairs are listed, and the neighbours counted.
-fn write_sheet(out: &mut [u8], table: Table, pairs: &[u16], counts: &[u16], m: usize) -> usize
-    requires { ⌜ SheetFits table (now pairs) (now counts) m (length (now out)) ⌝ }
+// Writes the sheet of the table's trees from the start of `out` on; m pairs are listed, the neighbours counted and the first
+// positions noted.
+fn write_sheet(
+    out: &mut [u8],
+    table: Table,
+    pairs: &[u16],
+    counts: &[u16],
+    firsts: &[u16],
+    m: usize,
+) -> usize
+    requires { ⌜ SheetFits table (now pairs) (now counts) (now firsts) m (length (now out)) ⌝ }
     ensures { λ r. ⌜
-        ((ts : List Topology) (ps : List Pair) → TreesListed table (now (counts .entry)) ts ps → PairsListed (now (pairs .entry)) m ps
+        ((ts : List Topology) (ps : List Pair) → TreesListed table (now (counts .entry)) (now (firsts .entry)) ts ps → PairsListed (now (pairs .entry)) m ps
         → Wrote (sheet ts ps) (now (out .entry)) (now (out .exit)) 0 r) ⌝ }
 {
     let trees = writing::write_first_line(out, 0, table.len, m);
-    let links = write_tree_lines(out, trees, table, counts);
+    let links = write_tree_lines(out, trees, table, counts, firsts);
     write_pair_lines(out, links, pairs, m)
 }
 
-// Lists the pairs of the table's trees in memory of its own, and writes their sheet.
+// Lists the pairs of the table's trees in memory of its own, with copies kept apart, and writes their sheet.
 fn write_table_sheet(out: &mut [u8], table: Table) -> usize
     requires { ⌜ TableFits table sheetBytes (length (now out)) ⌝ }
     ensures { λ r. ⌜ ShownAll SheetOf table (now (out .entry)) (now (out .exit)) r ⌝ }
 {
     let mut pairs = [0u16; Table::PAIR_NUMBERS];
     let mut counts = [0u16; Table::MAX_TREES];
-    let m = graph::list_pairs(&mut pairs, &mut counts, table, Link::Move);
-    write_sheet(out, table, &pairs, &counts, m)
+    let mut firsts = [0u16; Table::MAX_TREES];
+    let m = graph::list_pairs(
+        &mut pairs,
+        &mut counts,
+        &mut firsts,
+        table,
+        Link::Move,
+        Copies::KeptApart,
+    );
+    write_sheet(out, table, &pairs, &counts, &firsts, m)
 }
 
 // Writes the line of a refusal, which is all that is printed for a text that is refused.

@@ -1,7 +1,7 @@
 //! Each call beside the independent implementation: its answer, and what it leaves in lent memory.
 
-use norbelath::{Graph, GraphSize, Islands, Refusal, Table, TableSize};
-use norbelath::{CUT_OUT, FORM_OUT, GRAPH_COUNTS, GRAPH_PAIRS};
+use norbelath::{Copies, Graph, GraphSize, Interchanges, Islands, Refusal, Table, TableSize};
+use norbelath::{CUT_OUT, FORM_OUT, GRAPH_COUNTS, GRAPH_FIRSTS, GRAPH_PAIRS};
 use norbelath::{ISLANDS, SHEET_OUT, TABLE_ENDS, TABLE_TEXTS};
 
 use crate::generator::Random;
@@ -12,8 +12,25 @@ const SHORT: Refusal = Refusal {
     place: 0,
 };
 
-/// A call that lists pairs into two lent slices.
-type ListInto = fn(&[u8], &mut [u16], &mut [u16]) -> Result<GraphSize, Refusal>;
+/// A call that lists pairs, and its lent slices: pairs, counts, firsts and islands, or the first two or three of them.
+type ListInto<const N: usize> = fn(&[u8], [&mut [u16]; N]) -> Result<GraphSize, Refusal>;
+
+/// The least lengths of those slices.
+const LISTS: [usize; 4] = [GRAPH_PAIRS, GRAPH_COUNTS, GRAPH_FIRSTS, ISLANDS];
+
+const GRAPH: ListInto<3> =
+    |text, [pairs, counts, firsts]| norbelath::graph_into(text, pairs, counts, firsts);
+const MERGED: ListInto<3> = |text, [pairs, counts, firsts]| {
+    norbelath::graph_choosing_into(text, Copies::Merge, pairs, counts, firsts)
+};
+const KEPT_APART: ListInto<3> = |text, [pairs, counts, firsts]| {
+    norbelath::graph_choosing_into(text, Copies::KeepApart, pairs, counts, firsts)
+};
+const INTERCHANGES: ListInto<2> =
+    |text, [pairs, counts]| norbelath::interchanges_into(text, pairs, counts);
+const ISLAND_GRAPH: ListInto<4> = |text, [pairs, counts, firsts, islands]| {
+    norbelath::islands_into(text, pairs, counts, firsts, islands)
+};
 
 fn refusal(x: plain::Refusal) -> Refusal {
     Refusal {
@@ -21,6 +38,19 @@ fn refusal(x: plain::Refusal) -> Refusal {
         text: x.text,
         place: x.place,
     }
+}
+
+fn graph(x: plain::Graph) -> Graph {
+    Graph {
+        pairs: x.pairs,
+        counts: x.counts,
+        firsts: x.firsts,
+    }
+}
+
+/// The pairs as a slice holds them.
+fn flat(pairs: &[(u16, u16)]) -> Vec<u16> {
+    pairs.iter().flat_map(|&(i, j)| [i, j]).collect()
 }
 
 /// The start of a text, for messages.
@@ -32,6 +62,12 @@ fn shown(text: &[u8]) -> String {
 struct Lent<T> {
     slice: Vec<T>,
     before: Vec<T>,
+}
+
+/// The slices themselves, one for each.
+fn slices<const N: usize>(lent: &mut [Lent<u16>; N]) -> [&mut [u16]; N] {
+    let mut rest = lent.iter_mut();
+    std::array::from_fn(|_| &mut rest.next().expect("one for each").slice[..])
 }
 
 impl<T: Copy + PartialEq> Lent<T> {
@@ -190,94 +226,95 @@ impl Comparison {
         assert_eq!(answer, size, "{}", shown(text));
     }
 
-    /// The graph call, the interchange call and the islands call.
+    /// The graph call under each choice, the interchange call and the islands call.
     pub fn graphs(&mut self, text: &[u8]) {
-        self.list_call(
-            text,
-            plain::graph(text),
-            norbelath::graph(text),
-            norbelath::graph_into,
-        );
-        self.list_call(
-            text,
-            plain::interchanges(text),
-            norbelath::interchanges(text),
-            norbelath::interchanges_into,
-        );
+        self.merged_and_kept_apart(text);
+        self.interchanges(text);
         self.islands(text);
+    }
+
+    /// The graph call, and the graph choosing call under both choices. Gives the merged graph and the one with copies
+    /// kept apart, for tests that want to see both.
+    pub fn merged_and_kept_apart(&mut self, text: &[u8]) -> Option<(Graph, Graph)> {
+        let merged = plain::graph(text).map(graph).map_err(refusal);
+        self.graph_call(text, &merged, norbelath::graph(text), GRAPH);
+        let returned = norbelath::graph_choosing(text, Copies::Merge);
+        self.graph_call(text, &merged, returned, MERGED);
+
+        let apart = plain::graph_with_copies(text).map(graph).map_err(refusal);
+        let returned = norbelath::graph_choosing(text, Copies::KeepApart);
+        self.graph_call(text, &apart, returned, KEPT_APART);
+        merged.ok().zip(apart.ok())
+    }
+
+    /// A graph, returned and written.
+    fn graph_call(
+        &mut self,
+        text: &[u8],
+        expected: &Result<Graph, Refusal>,
+        returned: Result<Graph, Refusal>,
+        into: ListInto<3>,
+    ) {
+        assert_eq!(&returned, expected, "{}", shown(text));
+        let lists = returned.map(|x| [flat(&x.pairs), x.counts, x.firsts]);
+        self.written_lists(text, lists, into);
+    }
+
+    pub fn interchanges(&mut self, text: &[u8]) {
+        let expected = plain::interchanges(text)
+            .map(|(pairs, counts)| Interchanges { pairs, counts })
+            .map_err(refusal);
+        assert_eq!(norbelath::interchanges(text), expected, "{}", shown(text));
+        let lists = expected.map(|x| [flat(&x.pairs), x.counts]);
+        self.written_lists(text, lists, INTERCHANGES);
     }
 
     /// Gives the answer, for tests that want to see islands.
     pub fn islands(&mut self, text: &[u8]) -> Option<Islands> {
         let expected = plain::islands(text)
-            .map(|(pairs, counts, islands)| Islands {
-                pairs,
-                counts,
-                islands,
+            .map(|x| Islands {
+                pairs: x.graph.pairs,
+                counts: x.graph.counts,
+                firsts: x.graph.firsts,
+                islands: x.numbers,
             })
             .map_err(refusal);
         let returned = norbelath::islands(text);
         assert_eq!(returned, expected, "{}", shown(text));
-
-        let graph = expected.map(|x| Graph {
-            pairs: x.pairs,
-            counts: x.counts,
-        });
-        let len = enough(&mut self.random, ISLANDS);
-        let mut islands = Lent::new(&mut self.random, len, |x| x as u16);
-        self.written_list(text, graph, |pairs, counts| {
-            norbelath::islands_into(text, pairs, counts, &mut islands.slice)
-        });
-        let written = returned.as_ref().map_or(&[][..], |x| &x.islands);
-        assert!(islands.holds(written), "{}", shown(text));
+        let lists = expected.map(|x| [flat(&x.pairs), x.counts, x.firsts, x.islands]);
+        self.written_lists(text, lists, ISLAND_GRAPH);
         returned.ok()
     }
 
-    /// A call that lists pairs, returned and written.
-    fn list_call(
+    /// What a call that lists pairs writes into its slices.
+    fn written_lists<const N: usize>(
         &mut self,
         text: &[u8],
-        expected: Result<plain::Graph, plain::Refusal>,
-        returned: Result<Graph, Refusal>,
-        into: ListInto,
+        expected: Result<[Vec<u16>; N], Refusal>,
+        into: ListInto<N>,
     ) {
-        let expected = expected
-            .map(|(pairs, counts)| Graph { pairs, counts })
-            .map_err(refusal);
-        assert_eq!(returned, expected, "{}", shown(text));
-        self.written_list(text, expected, |pairs, counts| into(text, pairs, counts));
-    }
-
-    /// The pairs and counts that a call writes.
-    fn written_list(
-        &mut self,
-        text: &[u8],
-        expected: Result<Graph, Refusal>,
-        call: impl FnOnce(&mut [u16], &mut [u16]) -> Result<GraphSize, Refusal>,
-    ) {
-        let pairs_len = enough(&mut self.random, GRAPH_PAIRS);
-        let counts_len = enough(&mut self.random, GRAPH_COUNTS);
-        let mut pairs = Lent::new(&mut self.random, pairs_len, |x| x as u16);
-        let mut counts = Lent::new(&mut self.random, counts_len, |x| x as u16);
-        let answer = call(&mut pairs.slice, &mut counts.slice);
+        let mut lent = self.lent_lists([false; N]);
+        let answer = into(text, slices(&mut lent));
         self.count(&answer);
-        match &expected {
-            Ok(graph) => {
-                let flat: Vec<u16> = graph.pairs.iter().flat_map(|&(i, j)| [i, j]).collect();
-                assert!(pairs.holds(&flat), "{}", shown(text));
-                assert!(counts.holds(&graph.counts), "{}", shown(text));
-            }
-            Err(_) => assert!(pairs.holds(&[]) && counts.holds(&[]), "{}", shown(text)),
-        }
-        let size = expected.map(|graph| GraphSize {
-            trees: graph.counts.len(),
-            pairs: graph.pairs.len(),
+        let size = expected.as_ref().map(|lists| GraphSize {
+            trees: lists[1].len(),
+            pairs: lists[0].len() / 2,
         });
-        assert_eq!(answer, size, "{}", shown(text));
+        assert_eq!(answer, size.map_err(|&x| x), "{}", shown(text));
+        let lists = expected.unwrap_or([(); N].map(|_| vec![]));
+        let written = lent.iter().zip(&lists).all(|(x, list)| x.holds(list));
+        assert!(written, "{}", shown(text));
     }
 
-    /// The table call and the calls that list pairs with the first slice too short, the second, or both; the islands
-    /// call with any one of its three, or all.
+    /// Lent slices for a call that lists pairs, of which some are too short.
+    fn lent_lists<const N: usize>(&mut self, short: [bool; N]) -> [Lent<u16>; N] {
+        std::array::from_fn(|i| {
+            let len = length(&mut self.random, short[i], LISTS[i]);
+            Lent::new(&mut self.random, len, |x| x as u16)
+        })
+    }
+
+    /// The table call and the calls that list pairs, each with any one of its slices too short, or all.
     pub fn short_tables(&mut self, text: &[u8]) {
         for (one, other) in [(true, false), (false, true), (true, true)] {
             let len = length(&mut self.random, one, TABLE_TEXTS);
@@ -288,43 +325,22 @@ impl Comparison {
             assert!(texts.holds(&[]) && ends.holds(&[]), "{}", shown(text));
             assert_eq!(answer, Err(SHORT), "{}", shown(text));
             self.count(&answer);
-
-            for list_into in [
-                norbelath::graph_into as ListInto,
-                norbelath::interchanges_into,
-            ] {
-                let len = length(&mut self.random, one, GRAPH_PAIRS);
-                let mut pairs = Lent::new(&mut self.random, len, |x| x as u16);
-                let len = length(&mut self.random, other, GRAPH_COUNTS);
-                let mut counts = Lent::new(&mut self.random, len, |x| x as u16);
-                let answer = list_into(text, &mut pairs.slice, &mut counts.slice);
-                assert!(pairs.holds(&[]) && counts.holds(&[]), "{}", shown(text));
-                assert_eq!(answer, Err(SHORT), "{}", shown(text));
-                self.count(&answer);
-            }
         }
-        self.short_islands(text, [true, false, false]);
-        self.short_islands(text, [false, true, false]);
-        self.short_islands(text, [false, false, true]);
-        self.short_islands(text, [true, true, true]);
+        for into in [GRAPH, MERGED, KEPT_APART] {
+            self.short_lists(text, into);
+        }
+        self.short_lists(text, INTERCHANGES);
+        self.short_lists(text, ISLAND_GRAPH);
     }
 
-    /// The islands call with these of its slices too short.
-    fn short_islands(&mut self, text: &[u8], short: [bool; 3]) {
-        let least = [GRAPH_PAIRS, GRAPH_COUNTS, ISLANDS];
-        let [mut pairs, mut counts, mut islands] = [0, 1, 2].map(|i| {
-            let len = length(&mut self.random, short[i], least[i]);
-            Lent::new(&mut self.random, len, |x| x as u16)
-        });
-        let answer = norbelath::islands_into(
-            text,
-            &mut pairs.slice,
-            &mut counts.slice,
-            &mut islands.slice,
-        );
-        let unchanged = [pairs, counts, islands].iter().all(|x| x.holds(&[]));
-        assert!(unchanged, "{}", shown(text));
-        assert_eq!(answer, Err(SHORT), "{}", shown(text));
-        self.count(&answer);
+    fn short_lists<const N: usize>(&mut self, text: &[u8], into: ListInto<N>) {
+        for chosen in 0..=N {
+            let short = std::array::from_fn(|i| i == chosen || chosen == N);
+            let mut lent = self.lent_lists(short);
+            let answer = into(text, slices(&mut lent));
+            assert!(lent.iter().all(|x| x.holds(&[])), "{}", shown(text));
+            assert_eq!(answer, Err(SHORT), "{}", shown(text));
+            self.count(&answer);
+        }
     }
 }

@@ -5,7 +5,7 @@ mod generator;
 
 use comparison::Comparison;
 use generator::{chains, damage, labels, Random, Tree};
-use norbelath::{Islands, MAX_TEXT, MAX_TREES};
+use norbelath::{Graph, Islands, MAX_TEXT, MAX_TREES};
 
 /// Every text of up to so many of these bytes.
 fn every_text(bytes: &[u8], most: usize) -> Vec<Vec<u8>> {
@@ -181,21 +181,28 @@ fn tables_of_trees() {
     compare.met("tables of trees", &least);
 }
 
-/// How many islands have two trees or more.
+/// The first positions of all topologies, in order.
+fn first_positions(firsts: &[u16]) -> Vec<u16> {
+    let own = (0..).zip(firsts).filter(|&(i, &first)| i == first);
+    own.map(|(i, _)| i).collect()
+}
+
+/// How many islands have two topologies or more.
 fn groups(x: &Islands) -> usize {
     let mut sizes = [0; MAX_TREES];
-    for &number in &x.islands {
-        sizes[number as usize] += 1;
+    for i in first_positions(&x.firsts) {
+        sizes[x.islands[i as usize] as usize] += 1;
     }
     sizes.iter().filter(|&&size| size > 1).count()
 }
 
-/// How many positions only a chain of several pairs joins to the smallest of their island.
+/// How many first positions only a chain of several pairs joins to the smallest of their island.
 fn joined_by_chains(x: &Islands) -> usize {
-    let joined = (0..).zip(&x.islands).filter(|&(i, &number)| i != number);
-    joined
-        .filter(|&(i, &number)| !x.pairs.contains(&(number, i)))
-        .count()
+    let apart = |&i: &u16| {
+        let number = x.islands[i as usize];
+        i != number && !x.pairs.contains(&(number, i))
+    };
+    first_positions(&x.firsts).into_iter().filter(apart).count()
 }
 
 /// Tables of several islands, whose trees are mixed; small ones and full ones.
@@ -222,6 +229,66 @@ fn islands_of_trees() {
     compare.met("islands of trees", &[(0, 1_000)]);
     println!("{several} tables of several islands, {chained} trees joined by chains");
     assert!(several >= 500 && chained >= 5_000);
+}
+
+/// What tables with copies showed, so that a test can tell that it showed enough.
+#[derive(Debug, Default)]
+struct Copied {
+    /// Tables whose graph has other pairs if copies are kept apart.
+    tables: usize,
+    /// Copies that have another copy between their first and them.
+    third: usize,
+    /// Copies without neighbours.
+    alone: usize,
+    /// Copies that are not in the island which has the number of their first.
+    joined: usize,
+}
+
+impl Copied {
+    fn note(&mut self, merged: &Graph, apart: &Graph, islands: &Islands) {
+        self.tables += usize::from(merged.pairs != apart.pairs);
+        for (i, &first) in merged.firsts.iter().enumerate() {
+            if first as usize != i {
+                let between = &merged.firsts[first as usize + 1..i];
+                self.third += usize::from(between.contains(&first));
+                self.alone += usize::from(apart.counts[i] == 0);
+                self.joined += usize::from(islands.islands[i] != first);
+            }
+        }
+    }
+}
+
+/// Tables of few topologies, each of them in several places and written in several ways; small ones and full ones.
+#[test]
+fn copies_of_trees() {
+    let mut compare = Comparison::new(13);
+    let mut copied = Copied::default();
+    for turn in 0..1_000 {
+        let trees = match turn % 20 {
+            0 => MAX_TREES,
+            _ => 2 + compare.random.below(30),
+        };
+        let leaves = 2 + compare.random.below([5, 16][turn % 2]);
+        let set = labels(&mut compare.random, leaves);
+        let made = compare.random.pick(&[2, 4, 8, 16]);
+        let longest = compare.random.pick(&[1, 3, 8]);
+        let few = chains(&mut compare.random, &set, made, longest);
+        let mut text = Vec::new();
+        for _ in 0..trees {
+            let tree = &few[compare.random.below(few.len())];
+            text.extend(tree.text(&mut compare.random, 2));
+        }
+        let (merged, apart) = compare
+            .merged_and_kept_apart(&text)
+            .expect("a table of trees");
+        let islands = compare.islands(&text).expect("a table of trees");
+        compare.interchanges(&text);
+        copied.note(&merged, &apart, &islands);
+    }
+    compare.met("copies of trees", &[(0, 5_000)]);
+    println!("{copied:?}");
+    assert!(copied.tables >= 400 && copied.third >= 10_000);
+    assert!(copied.alone >= 5_000 && copied.joined >= 3_000);
 }
 
 /// What the pair lister prints: small tables, whole and damaged, the largest, and texts around the limit.
@@ -251,23 +318,29 @@ fn sheets() {
     compare.met("sheets", &[(0, 350), (7, 350)]);
 }
 
-/// A full table of the largest trees, each one move from the one before. Then a byte behind it.
+/// Full tables of the largest trees, each one move from the one before; in one of them, eight trees again and again.
+/// Then a byte behind them.
 #[test]
-fn full_table() {
+fn full_tables() {
     let mut compare = Comparison::new(7);
     let labels: Vec<u8> = (1..=64).collect();
-    let mut tree = Tree::random(&mut compare.random, &labels);
-    let mut text = Vec::new();
-    for _ in 0..MAX_TREES {
-        text.extend(tree.text(&mut compare.random, 0));
-        tree = tree.moved(&mut compare.random);
+    for made in [MAX_TREES, 8] {
+        let mut trees = vec![Tree::random(&mut compare.random, &labels)];
+        while trees.len() < made {
+            let last = trees[trees.len() - 1].clone();
+            trees.push(last.moved(&mut compare.random));
+        }
+        let mut text = Vec::new();
+        for tree in trees.iter().cycle().take(MAX_TREES) {
+            text.extend(tree.text(&mut compare.random, 0));
+        }
+        compare.table(&text);
+        compare.graphs(&text);
+        text.extend(b" \t;");
+        compare.table(&text);
+        compare.graphs(&text);
     }
-    compare.table(&text);
-    compare.graphs(&text);
-    text.extend(b" \t;");
-    compare.table(&text);
-    compare.graphs(&text);
-    compare.met("full table", &[(0, 4), (6, 4)]);
+    compare.met("full tables", &[(0, 12), (6, 12)]);
 }
 
 /// Text lengths around the limit. Too long goes before anything in the text, and too short a slice before that.
@@ -294,7 +367,8 @@ fn long_texts() {
         compare.graphs(&text);
         compare.short_tables(&text);
     }
-    compare.met("long texts", &[(0, 100), (1, 100), (7, 500), (8, 500)]);
+    let least = [(0, 100), (1, 100), (7, 2_500), (8, 500)];
+    compare.met("long texts", &least);
 }
 
 /// Brackets around the limit of 63, alone or behind a subtree of many leaves.
@@ -337,5 +411,5 @@ fn short_slices() {
         }
         compare.short_tables(&text);
     }
-    compare.met("short slices", &[(7, 26_000)]);
+    compare.met("short slices", &[(7, 46_000)]);
 }

@@ -17,17 +17,19 @@ use Rattle.calls.proofs.islands_call.Tie as tie
 
 -- the entry and the lent memory, from where the text was read, and what the call is given
 abbrev start : tie.After-read-lent-table → tie.Start
-start d = d .before .before .before .before .before .before .before .before
+start d = d .before .before .before .before .before .before .before .before .before .before
 
 abbrev memory : tie.After-read-lent-table → IslandsMemory
-memory d = islandSlices (start d .args .pairs .now) (start d .args .counts .now) (start d .args .islands .now)
+memory d = islandSlices (start d .args .pairs .now) (start d .args .counts .now) (start d .args .firsts .now) (start d .args .islands .now)
 
 given : (d : tie.After-read-lent-table) → TableLent (d .read-lent-table .result) (islandsRead (start d .args .s .now) (memory d))
 given d =
     let measures = d .before in
-    let others =
-    measures .before .enough2 .ensures ∙ ap (λ (b : Bool). leb maxTrees (length (memory d .graph .counts)) && b) (measures .before .before .enough .ensures) in
-    measured _ (measures .enough3 .ensures ∙ ap (λ (b : Bool). leb pairNumbers (length (memory d .graph .pairs)) && b) others) (d .read-lent-table .ensures)
+    let two =
+    measures .before .before .enough2 .ensures
+    ∙ ap (λ (b : Bool). leb maxTrees (length (memory d .lists .firsts)) && b) (measures .before .before .before .enough .ensures) in
+    let three = measures .before .enough3 .ensures ∙ ap (λ (b : Bool). leb maxTrees (length (memory d .lists .graph .counts)) && b) two in
+    measured _ (measures .enough4 .ensures ∙ ap (λ (b : Bool). leb pairNumbers (length (memory d .lists .graph .pairs)) && b) three) (d .read-lent-table .ensures)
 
 enough-requires : tie.Need-enough-requires
 enough-requires c κs = search needs
@@ -37,6 +39,9 @@ enough-requires-2 c κs = search needs
 
 enough-requires-3 : tie.Need-enough-requires-3
 enough-requires-3 c κs = search needs
+
+enough-requires-4 : tie.Need-enough-requires-4
+enough-requires-4 c κs = search needs
 
 read-lent-table-requires : tie.Need-read-lent-table-requires
 read-lent-table-requires c κs = search needs
@@ -49,8 +54,8 @@ enum-known-step-2 c = search needs
 
 list-islands-requires : tie.Need-list-islands-requires
 list-islands-requires c κs =
-    let d = c .before .before .before .before .before .before in
-    islands-room (start d .args .s .now) (memory d) (given d) (c .before .before .before .before .step2 .given .1)
+    let d = c .before .before .before .before .before .before .before in
+    islands-room (start d .args .s .now) (memory d) (given d) (c .before .before .before .before .before .step2 .given .1)
 
 returns : tie.Need-returns
 returns c =
@@ -66,11 +71,14 @@ same-length-2 c = search needs
 same-length-3 : tie.Need-same-length-3
 same-length-3 c = search needs
 
+same-length-4 : tie.Need-same-length-4
+same-length-4 c = search needs
+
 returns-2 : tie.Need-returns-2
 returns-2 c =
-    let w = c .before .before .before .before .before .before in
-    let d = w .before .before .before .before .before .before .before in
-    islands-listed (start d .args .s .now) (memory d) (given d) (w .before .before .before .before .before .step2 .given .1) (w .list-islands .ensures)
+    let w = c .before .before .before .before .before .before .before .before in
+    let d = w .before .before .before .before .before .before .before .before in
+    islands-listed (start d .args .s .now) (memory d) (given d) (w .before .before .before .before .before .before .step2 .given .1) (w .list-islands .ensures)
 
 pub islands-call-spec : {M : Type 1} → statement M
 islands-call-spec =
@@ -79,6 +87,7 @@ islands-call-spec =
     enough-requires
     enough-requires-2
     enough-requires-3
+    enough-requires-4
     read-lent-table-requires
     enum-known-step
     enum-known-step-2
@@ -87,4 +96,5 @@ islands-call-spec =
     same-length
     same-length-2
     same-length-3
+    same-length-4
     returns-2)

@@ -14,7 +14,7 @@ use Rattle.meaning.specs.Tree.{Tree as Topology}
 use Rattle.lent.specs.Runs.{Wrote}
 use Rattle.lent.proofs.Runs.{wrote-length, wrote-next}
 use Rattle.held.specs.Kept.{KeepsAll}
-use Rattle.held.specs.Copies.{firstOf}
+use Rattle.meaning.specs.Copies.{firstOf}
 use Rattle.held.specs.declared.Table.{Table}
 use Rattle.held.proofs.Kept.{kept-at}
 use Rattle.held.proofs.Copies.{NoneBefore, Told, none-more, not-last, first-found}

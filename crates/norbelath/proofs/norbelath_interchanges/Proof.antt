@@ -1,7 +1,7 @@
 -- `norbelath::norbelath_interchanges` meets its contract.
 -- Assumes nothing.
 use Rattle.norbelath.specs.Coded.{graphValue}
-use Rattle.norbelath.proofs.Numbered.{graph-numbered}
+use Rattle.norbelath.proofs.Numbered.{interchange-numbered}
 use Rattle.norbelath.proofs.Replies.{handed-back}
 use borrow.Author.Needs.{needs}
 use Rattle.norbelath.proofs.norbelath_interchanges.Statement.{statement}
@@ -11,7 +11,10 @@ interchange-call-requires : tie.Need-interchange-call-requires
 interchange-call-requires c κs = search needs
 
 graph-reply-requires : tie.Need-graph-reply-requires
-graph-reply-requires c κs = graph-numbered (c .before .before .before .before .interchange-call .ensures)
+graph-reply-requires c κs =
+    let called = c .before .before .before .before in
+    let a = called .before .before .before .before .before .before .args in
+    interchange-numbered (a .text .now) (record { pairs = a .pairs .now; counts = a .counts .now }) (called .interchange-call .ensures)
 
 hand-back-requires : tie.Need-hand-back-requires
 hand-back-requires c κs = search needs

@@ -11,7 +11,7 @@ islands-call-requires : tie.Need-islands-call-requires
 islands-call-requires c κs = search needs
 
 graph-reply-requires : tie.Need-graph-reply-requires
-graph-reply-requires c κs = islands-numbered (c .before .before .before .before .before .before .islands-call .ensures)
+graph-reply-requires c κs = islands-numbered (c .before .before .before .before .before .before .before .before .islands-call .ensures)
 
 hand-back-requires : tie.Need-hand-back-requires
 hand-back-requires c κs = search needs
@@ -25,10 +25,13 @@ same-length-2 c = search needs
 same-length-3 : tie.Need-same-length-3
 same-length-3 c = search needs
 
+same-length-4 : tie.Need-same-length-4
+same-length-4 c = search needs
+
 returns : tie.Need-returns
 returns c =
     let d = c .before .before .before in
-    rw (handed-back graphValue (c .hand-back .ensures) (d .graph-reply .ensures)) (d .before .before .before .before .before .before .before .islands-call .ensures)
+    rw (handed-back graphValue (c .hand-back .ensures) (d .graph-reply .ensures)) (d .before .before .before .before .before .before .before .before .before .islands-call .ensures)
 
 pub norbelath-islands-spec : {M : Type 1} → statement M
 norbelath-islands-spec =
@@ -40,4 +43,5 @@ norbelath-islands-spec =
     same-length
     same-length-2
     same-length-3
+    same-length-4
     returns)

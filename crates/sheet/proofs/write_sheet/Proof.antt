@@ -7,7 +7,7 @@ use Rattle.sheet.proofs.write_sheet.Tie as tie
 
 -- the places before the first line, behind it and behind the trees' lines
 abbrev start : tie.After-write-first-line → tie.Start
-start c = c .before .before .before .before .before
+start c = c .before .before .before .before .before .before
 
 abbrev first : tie.After-write-tree-lines → tie.After-write-first-line
 first c = c .before .before .before .before
@@ -16,7 +16,7 @@ abbrev trees : tie.After-write-pair-lines → tie.After-write-tree-lines
 trees c = c .before .before .before .before
 
 write-first-line-requires : tie.Need-write-first-line-requires
-write-first-line-requires c κs = let s = c .before .before .before .before in first-fits (s .args .out .now) (s .pre)
+write-first-line-requires c κs = let s = c .before .before .before .before .before in first-fits (s .args .out .now) (s .pre)
 
 write-tree-lines-requires : tie.Need-write-tree-lines-requires
 write-tree-lines-requires c κs =

@@ -5,20 +5,28 @@ use native.Mathlib.Omega.{arith}
 use borrow.Author.Needs.{needs}
 use lib.ListN.{replicate, length-replicate}
 use Rattle.meaning.specs.Limits.{maxTrees, pairNumbers}
-use Rattle.graph.specs.Graph.{slices, ListRoom}
+use Rattle.graph.specs.Graph.{slices}
+use Rattle.graph.specs.Copies.{GraphRoom}
 use Rattle.sheet.proofs.Shown.{listed-fits, listed-wrote}
 use Rattle.sheet.proofs.write_table_sheet.Statement.{statement}
 use Rattle.sheet.proofs.write_table_sheet.Tie as tie
-
--- the sizes of the arrays
-room : ListRoom (slices (replicate pairNumbers 0) (replicate maxTrees 0))
-room = record { pairs-room = omega (arith, length-replicate {A = ℕ} pairNumbers 0); counts-room = omega (arith, length-replicate {A = ℕ} maxTrees 0) }
 
 slice-aggregate-list-pairs : tie.Need-slice-aggregate-list-pairs
 slice-aggregate-list-pairs c = search needs
 
 slice-aggregate-list-pairs-2 : tie.Need-slice-aggregate-list-pairs-2
 slice-aggregate-list-pairs-2 c = search needs
+
+slice-aggregate-list-pairs-3 : tie.Need-slice-aggregate-list-pairs-3
+slice-aggregate-list-pairs-3 c = search needs
+
+-- the sizes of the arrays
+room : (c : tie.After-list-pairs) → GraphRoom (c .before .before .before .before .before .args .table) (slices (replicate pairNumbers 0) (replicate maxTrees 0)) (replicate maxTrees 0)
+room c = record {
+  kept = c .before .before .before .before .before .pre .kept;
+  room = record { pairs-room = omega (arith, length-replicate {A = ℕ} pairNumbers 0); counts-room = omega (arith, length-replicate {A = ℕ} maxTrees 0) };
+  firsts-room = omega (arith, length-replicate {A = ℕ} maxTrees 0);
+}
 
 list-pairs-requires : tie.Need-list-pairs-requires
 list-pairs-requires c κs = search needs
@@ -29,10 +37,13 @@ slice-aggregate-write-sheet c = search needs
 slice-aggregate-write-sheet-2 : tie.Need-slice-aggregate-write-sheet-2
 slice-aggregate-write-sheet-2 c = search needs
 
+slice-aggregate-write-sheet-3 : tie.Need-slice-aggregate-write-sheet-3
+slice-aggregate-write-sheet-3 c = search needs
+
 write-sheet-requires : tie.Need-write-sheet-requires
 write-sheet-requires c κs =
-    let o = c .before .before .before .before .before in
-    listed-fits room (o .list-pairs .ensures) (o .before .before .before .before .pre)
+    let o = c .before .before .before .before .before .before .before in
+    listed-fits (room o) (o .list-pairs .ensures) (o .before .before .before .before .before .pre)
 
 same-length : tie.Need-same-length
 same-length c = search needs
@@ -40,8 +51,8 @@ same-length c = search needs
 returns : tie.Need-returns
 returns c =
     let w = c .before .before in
-    let o = w .before .before .before .before .before .before in
-    listed-wrote room (o .list-pairs .ensures) (w .write-sheet .ensures)
+    let o = w .before .before .before .before .before .before .before .before in
+    listed-wrote (room o) (o .list-pairs .ensures) (w .write-sheet .ensures)
 
 pub write-table-sheet-spec : {M : Type 1} → statement M
 write-table-sheet-spec =
@@ -49,9 +60,11 @@ write-table-sheet-spec =
     (tie.spec
     slice-aggregate-list-pairs
     slice-aggregate-list-pairs-2
+    slice-aggregate-list-pairs-3
     list-pairs-requires
     slice-aggregate-write-sheet
     slice-aggregate-write-sheet-2
+    slice-aggregate-write-sheet-3
     write-sheet-requires
     same-length
     returns)

@@ -13,17 +13,17 @@ use Rattle.sheet.proofs.write_tree_lines.Statement.{statement}
 use Rattle.sheet.proofs.write_tree_lines.Tie as tie
 
 abbrev Inv-loop : tie.InvT-loop
-Inv-loop out₀ at counts table unlinked next₀ i₀ i-end out next i = (i ≤ i-end) × TreesSoFar table counts out₀ out at next i
+Inv-loop out₀ at counts firsts table unlinked next₀ i₀ i-end out next i = (i ≤ i-end) × TreesSoFar table counts firsts out₀ out at next i
 
 abbrev μ-loop : tie.MeasureT-loop
-μ-loop out₀ at counts table unlinked next₀ i₀ i-end out next i = i-end - i
+μ-loop out₀ at counts firsts table unlinked next₀ i₀ i-end out next i = i-end - i
 
 slice-aggregate-note-unlinked : tie.Need-slice-aggregate-note-unlinked Inv-loop μ-loop
 slice-aggregate-note-unlinked c = search needs
 
 note-unlinked-requires : tie.Need-note-unlinked-requires Inv-loop μ-loop
 note-unlinked-requires c κs =
-    let p = c .before .before .before .pre in
+    let p = c .before .before .before .before .pre in
     record { trees = p .trees; linked = p .linked; listed = p .listed; room = p .listed .keeps .few }
 
 loop-holds : tie.Need-loop-holds Inv-loop μ-loop
@@ -34,7 +34,7 @@ abbrev noted : tie.At-loop Inv-loop μ-loop → tie.After-note-unlinked Inv-loop
 noted c = c .before .before
 
 abbrev start : tie.At-loop Inv-loop μ-loop → tie.Start Inv-loop μ-loop
-start c = noted c .before .before .before .before
+start c = noted c .before .before .before .before .before
 
 -- a turn's tree is one of at most 160
 inside : (c : tie.In-loop Inv-loop μ-loop) → c .before .loop .i < length (start (c .before) .pre .trees)
@@ -50,7 +50,7 @@ shared-slice-read-neighbours : tie.Need-shared-slice-read-neighbours Inv-loop μ
 shared-slice-read-neighbours c = omega (arith, inside (c .before), numbers-long (start (c .before .before) .pre .listed))
 
 cast-neighbours : tie.Need-cast-neighbours Inv-loop μ-loop
-cast-neighbours c = omega (arith, c .shared-slice-known2 .given (c .before .before .loop .i))
+cast-neighbours c = omega (arith, c .shared-slice-known3 .given (c .before .before .loop .i))
 
 mul-others : tie.Need-mul-others Inv-loop μ-loop
 mul-others c = omega (arith, few (c .before))

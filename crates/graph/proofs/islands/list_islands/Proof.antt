@@ -10,8 +10,8 @@ list-pairs-requires c κs = search needs
 
 number-islands-requires : tie.Need-number-islands-requires
 number-islands-requires c κs =
-    let o = c .before .before .before .before .before .before in
-    islands-room (o .before .before .before .before .before .before .pre) (o .list-pairs .ensures)
+    let o = c .before .before .before .before .before .before .before .before .before in
+    islands-room (o .before .before .before .before .before .before .before .before .pre) (o .list-pairs .ensures)
 
 same-length : tie.Need-same-length
 same-length c = search needs
@@ -22,11 +22,14 @@ same-length-2 c = search needs
 same-length-3 : tie.Need-same-length-3
 same-length-3 c = search needs
 
+same-length-4 : tie.Need-same-length-4
+same-length-4 c = search needs
+
 returns : tie.Need-returns
 returns c =
     let w = c .before .before in
-    let o = w .before .before .before .before .before .before .before in
-    islands-written (o .before .before .before .before .before .before .pre) (o .list-pairs .ensures) (w .number-islands .ensures)
+    let o = w .before .before .before .before .before .before .before .before .before .before in
+    islands-written (o .before .before .before .before .before .before .before .before .pre) (o .list-pairs .ensures) (w .number-islands .ensures)
 
 pub list-islands-spec : {M : Type 1} → statement M
 list-islands-spec =
@@ -37,4 +40,5 @@ list-islands-spec =
     same-length
     same-length-2
     same-length-3
+    same-length-4
     returns)

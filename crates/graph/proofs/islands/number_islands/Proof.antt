@@ -3,7 +3,7 @@
 use mathlib.Core.Path.{_∙_}
 use Prim.Native.Nat.{_+_, _-_, _*_, _≤_, _<_}
 use native.Mathlib.Omega.{arith}
-use lib.ListN.{length, getD}
+use lib.ListN.{length, take, getD}
 use Rattle.meaning.proofs.Lists.{numbered}
 use Rattle.lent.proofs.Runs.{wrote-length, written-again}
 use Rattle.graph.specs.Islands.{IslandsRoom}
@@ -13,22 +13,22 @@ use Rattle.graph.proofs.islands.number_islands.Statement.{statement}
 use Rattle.graph.proofs.islands.number_islands.Tie as tie
 
 abbrev Inv-loop : tie.InvT-loop
-Inv-loop numbers₀ n pairs m k₀ numbers k = (k ≤ m) × UnitedTo n pairs m numbers₀ numbers k
+Inv-loop numbers₀ firsts n pairs m k₀ numbers k = (k ≤ m) × UnitedTo (take n firsts) n pairs m numbers₀ numbers k
 
 abbrev μ-loop : tie.MeasureT-loop
-μ-loop numbers₀ n pairs m k₀ numbers k = m - k
+μ-loop numbers₀ firsts n pairs m k₀ numbers k = m - k
 
-number-each-requires : tie.Need-number-each-requires Inv-loop μ-loop
-number-each-requires c κs = let s = c .before .before .before in (s .pre .room, s .pre .few)
+copy-firsts-requires : tie.Need-copy-firsts-requires Inv-loop μ-loop
+copy-firsts-requires c κs = let s = c .before .before .before .before in (s .pre .room, s .pre .lent)
 
 loop-holds : tie.Need-loop-holds Inv-loop μ-loop
 loop-holds c =
-    let w = c .before .before .number-each .ensures in
-    let s = c .before .before .before .before .before .before in
+    let w = c .before .before .copy-firsts .ensures in
+    let s = c .before .before .before .before .before .before .before in
     (omega arith, λ ps L. written-again w (s .pre .room))
 
 abbrev start : tie.At-loop Inv-loop μ-loop → tie.Start Inv-loop μ-loop
-start l = l .before .before .before .before .before .before .before
+start l = l .before .before .before .before .before .before .before .before
 
 -- both numbers of a turn's pair are lent
 pair-lent : (c : tie.In-loop Inv-loop μ-loop) → 2 * (c .before .loop .k) + 1 < length (start (c .before) .args .pairs .now)
@@ -36,7 +36,7 @@ pair-lent c = omega (arith, c .loop-test .taken, pairs-long (start (c .before) .
 
 -- and are positions
 module _ (c : tie.In-loop Inv-loop μ-loop) where
-  abbrev room : IslandsRoom (start (c .before) .args .numbers .now) (start (c .before) .args .n) (start (c .before) .args .pairs .now) (start (c .before) .args .m)
+  abbrev room : IslandsRoom (start (c .before) .args .numbers .now) (start (c .before) .args .firsts .now) (start (c .before) .args .n) (start (c .before) .args .pairs .now) (start (c .before) .args .m)
   room = start (c .before) .pre
 
   in-list : c .before .loop .k < length (room .linked)
@@ -77,9 +77,9 @@ shared-slice-read-unite-2 c = pair-lent (c .before .before .before)
 cast-unite-2 : tie.Need-cast-unite-2 Inv-loop μ-loop
 cast-unite-2 c = omega (arith, second-in (c .before .before .before), start (c .before .before .before .before) .pre .few)
 
--- what the positions were written over
-each-room : (l : tie.At-loop Inv-loop μ-loop) → start l .args .n ≤ length (l .before .before .before .number-each .last .0)
-each-room l = omega (arith, wrote-length (l .before .before .before .number-each .ensures), start l .pre .room)
+-- what the firsts were written over
+each-room : (l : tie.At-loop Inv-loop μ-loop) → start l .args .n ≤ length (l .before .before .before .copy-firsts .last .0)
+each-room l = omega (arith, wrote-length (l .before .before .before .copy-firsts .ensures), start l .pre .room)
 
 unite-requires : tie.Need-unite-requires Inv-loop μ-loop
 unite-requires c κs =
@@ -97,18 +97,18 @@ loop-again : tie.Need-loop-again Inv-loop μ-loop
 loop-again c =
     let turn = c .before .before .before .before .before .before in
     let l = turn .before in
-    (omega (arith, turn .loop-test .taken), united-more (each-room l) (l .loop .inv .1) (turn .loop-test .taken) (c .before .before .unite .ensures))
+    (omega (arith, turn .loop-test .taken), united-more _ (each-room l) (l .loop .inv .1) (turn .loop-test .taken) (c .before .before .unite .ensures))
 
 same-length : tie.Need-same-length Inv-loop μ-loop
 same-length c =
     let l = c .before in
     let p = start l .pre in
-    wrote-length (l .loop .inv .1 (p .linked) (p .listed)) ∙ wrote-length (l .before .before .before .number-each .ensures)
+    wrote-length (l .loop .inv .1 (p .linked) (p .listed)) ∙ wrote-length (l .before .before .before .copy-firsts .ensures)
 
 returns : tie.Need-returns Inv-loop μ-loop
 returns c =
     let l = c .before in
-    united-all (each-room l) (l .loop .inv .1) (l .loop .inv .0) (c .loop-test .left) (start l .pre .room) (l .before .before .before .number-each .ensures)
+    united-all _ (each-room l) (l .loop .inv .1) (l .loop .inv .0) (c .loop-test .left) (start l .pre .room) (l .before .before .before .copy-firsts .ensures)
 
 pub number-islands-spec : {M : Type 1} → statement M
 number-islands-spec =
@@ -116,7 +116,7 @@ number-islands-spec =
     (tie.spec
     Inv-loop
     μ-loop
-    number-each-requires
+    copy-firsts-requires
     loop-holds
     mul-unite
     mul-unite-2

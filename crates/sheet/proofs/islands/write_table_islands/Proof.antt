@@ -7,7 +7,7 @@ use Rattle.sheet.proofs.islands.write_table_islands.Tie as tie
 
 -- the entry, from where the islands were numbered
 abbrev start : tie.After-list-islands → tie.Start
-start o = o .before .before .before .before .before
+start o = o .before .before .before .before .before .before
 
 slice-aggregate-list-islands : tie.Need-slice-aggregate-list-islands
 slice-aggregate-list-islands c = search needs
@@ -18,6 +18,9 @@ slice-aggregate-list-islands-2 c = search needs
 slice-aggregate-list-islands-3 : tie.Need-slice-aggregate-list-islands-3
 slice-aggregate-list-islands-3 c = search needs
 
+slice-aggregate-list-islands-4 : tie.Need-slice-aggregate-list-islands-4
+slice-aggregate-list-islands-4 c = search needs
+
 list-islands-requires : tie.Need-list-islands-requires
 list-islands-requires c κs = search needs
 
@@ -26,7 +29,7 @@ slice-aggregate-write-island-lines c = search needs
 
 write-island-lines-requires : tie.Need-write-island-lines-requires
 write-island-lines-requires c κs =
-    let o = c .before .before .before .before .before in
+    let o = c .before .before .before .before .before .before in
     let p = start o .pre in
     numbered-fits (o .list-islands .ensures) (p .kept .trees) (p .kept .keeps) (p .room)
 
@@ -36,7 +39,7 @@ same-length c = search needs
 returns : tie.Need-returns
 returns c =
     let w = c .before .before in
-    islands-shown (w .before .before .before .before .before .before .list-islands .ensures) (w .write-island-lines .ensures)
+    islands-shown (w .before .before .before .before .before .before .before .list-islands .ensures) (w .write-island-lines .ensures)
 
 pub write-table-islands-spec : {M : Type 1} → statement M
 write-table-islands-spec =
@@ -45,6 +48,7 @@ write-table-islands-spec =
     slice-aggregate-list-islands
     slice-aggregate-list-islands-2
     slice-aggregate-list-islands-3
+    slice-aggregate-list-islands-4
     list-islands-requires
     slice-aggregate-write-island-lines
     write-island-lines-requires

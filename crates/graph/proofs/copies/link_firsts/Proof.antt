@@ -1,4 +1,4 @@
--- `graph::link_trees` meets its contract. The loops' invariants: the bytes of the places that are passed show which trees are linked.
+-- `graph::copies::link_firsts` meets its contract. The loops' invariants: the bytes of the places that are passed show which first positions are linked.
 -- Assumes nothing.
 use mathlib.Core.Path.{_≡_}
 use mathlib.Core.List.{List}
@@ -7,32 +7,34 @@ use native.Mathlib.Omega.{arith}
 use borrow.Author.Needs.{needs}
 use lib.ListN.{length, length-set}
 use mir.Val.{boolByte}
-use Rattle.meaning.specs.Listing.{At, treeOf}
+use Rattle.meaning.specs.Listing.{treeOf}
+use Rattle.meaning.specs.Copies.{merged, LinkedBy}
 use Rattle.held.specs.declared.Table.{Table}
 use Rattle.held.proofs.Kept.{kept-at}
 use Rattle.pairs.specs.Link.{Linked}
 use Rattle.pairs.specs.declared.Link.{Link}
 use Rattle.graph.specs.Graph.{linkBytes, OfTrees}
 use Rattle.graph.proofs.Bytes.{ShowsTo, says-byte, shows-more}
-use Rattle.graph.proofs.link_trees.Statement.{statement}
-use Rattle.graph.proofs.link_trees.Tie as tie
+use Rattle.graph.proofs.Linked.{both-iff, linked-iff}
+use Rattle.graph.proofs.copies.link_firsts.Statement.{statement}
+use Rattle.graph.proofs.copies.link_firsts.Tie as tie
 
--- the bytes of the first places show which trees are linked
+-- the bytes of the places before one show which first positions are linked
 record LinkedTo (by : Link) (table : Table) (place : ℕ) (links : List ℕ) : Type 0 where
   long : length links ≡ linkBytes
-  shown : OfTrees table (λ ts. ShowsTo place links (length ts) (At (Linked by) ts))
+  shown : OfTrees table (λ ts. ShowsTo place links (length ts) (LinkedBy merged (Linked by) ts))
 
 abbrev Inv-loop2 : tie.InvT-loop2
-Inv-loop2 links₀ by table trees i j₀ links j = (i < j) × LinkedTo by table (i * 160 + j) links
+Inv-loop2 links₀ firsts by table trees i j₀ links j = (i < j) × LinkedTo by table (i * 160 + j) links
 
 abbrev μ-loop2 : tie.MeasureT-loop2
-μ-loop2 links₀ by table trees i j₀ links j = trees - j
+μ-loop2 links₀ firsts by table trees i j₀ links j = trees - j
 
 abbrev Inv-loop : tie.InvT-loop
-Inv-loop links₀ by table trees i₀ links i = LinkedTo by table (i * 160) links
+Inv-loop links₀ firsts by table trees i₀ links i = LinkedTo by table (i * 160) links
 
 abbrev μ-loop : tie.MeasureT-loop
-μ-loop links₀ by table trees i₀ links i = trees - i
+μ-loop links₀ firsts by table trees i₀ links i = trees - i
 
 -- no two trees have their byte between one place and another
 passed : {by : Link} {table : Table} {links : List ℕ} {place place′ : ℕ} → ((i j : ℕ) → i < j → j < table .len → i * 160 + j < place′ → i * 160 + j < place)
@@ -41,10 +43,10 @@ passed f l = record { long = l .long; shown = λ ts h i j lt inside before. l .s
 
 -- the function's entry, from the head of the inner loop
 abbrev start : tie.At-loop2 Inv-loop2 μ-loop2 Inv-loop μ-loop → tie.Start Inv-loop2 μ-loop2 Inv-loop μ-loop
-start c = c .before .before .before
+start c = c .before .before .before .before
 
 loop-holds : tie.Need-loop-holds Inv-loop2 μ-loop2 Inv-loop μ-loop
-loop-holds c = record { long = c .pre .1; shown = λ ts h i j _ _ none. absurd (omega arith) }
+loop-holds c = record { long = c .before .pre .bytes; shown = λ ts h i j _ _ none. absurd (omega arith) }
 
 add-j : tie.Need-add-j Inv-loop2 μ-loop2 Inv-loop μ-loop
 add-j c = omega arith
@@ -52,22 +54,28 @@ add-j c = omega arith
 loop2-holds : tie.Need-loop2-holds Inv-loop2 μ-loop2 Inv-loop μ-loop
 loop2-holds c = (omega arith, passed (λ i j lt inside before. omega arith) (c .before .loop .inv))
 
-mul-linked : tie.Need-mul-linked Inv-loop2 μ-loop2 Inv-loop μ-loop
-mul-linked c = omega arith
+both-first-requires : tie.Need-both-first-requires Inv-loop2 μ-loop2 Inv-loop μ-loop
+both-first-requires c κs =
+    let p = start (c .before) .pre in
+    let k = p .kept .keeps in
+    (omega (arith, c .before .loop2 .inv .0, c .loop2-test .taken, k .count, k .few, p .lent), omega (arith, c .loop2-test .taken, k .count, k .few, p .lent))
 
-element-copy-out-linked : tie.Need-element-copy-out-linked Inv-loop2 μ-loop2 Inv-loop μ-loop
-element-copy-out-linked c = omega arith
+mul-linked-firsts : tie.Need-mul-linked-firsts Inv-loop2 μ-loop2 Inv-loop μ-loop
+mul-linked-firsts c = omega arith
 
-mul-linked-2 : tie.Need-mul-linked-2 Inv-loop2 μ-loop2 Inv-loop μ-loop
-mul-linked-2 c = omega arith
+element-copy-out-linked-firsts : tie.Need-element-copy-out-linked-firsts Inv-loop2 μ-loop2 Inv-loop μ-loop
+element-copy-out-linked-firsts c = omega arith
 
-element-copy-out-linked-2 : tie.Need-element-copy-out-linked-2 Inv-loop2 μ-loop2 Inv-loop μ-loop
-element-copy-out-linked-2 c = omega arith
+mul-linked-firsts-2 : tie.Need-mul-linked-firsts-2 Inv-loop2 μ-loop2 Inv-loop μ-loop
+mul-linked-firsts-2 c = omega arith
 
-linked-requires : tie.Need-linked-requires Inv-loop2 μ-loop2 Inv-loop μ-loop
-linked-requires c κs =
-    let l = c .before .before .before in
-    let held = kept-at (start l .pre .0) in
+element-copy-out-linked-firsts-2 : tie.Need-element-copy-out-linked-firsts-2 Inv-loop2 μ-loop2 Inv-loop μ-loop
+element-copy-out-linked-firsts-2 c = omega arith
+
+linked-firsts-requires : tie.Need-linked-firsts-requires Inv-loop2 μ-loop2 Inv-loop μ-loop
+linked-firsts-requires c κs =
+    let l = c .before .before .before .before in
+    let held = kept-at (start l .pre .kept) in
     (held _ (omega arith), held _ (omega arith))
 
 cast-links : tie.Need-cast-links Inv-loop2 μ-loop2 Inv-loop μ-loop
@@ -90,19 +98,23 @@ loop2-less c = omega arith
 
 loop2-again : tie.Need-loop2-again Inv-loop2 μ-loop2 Inv-loop μ-loop
 loop2-again c =
-    let l = c .before .before .before .before in
+    let turn = c .before .before .before .before in
+    let l = turn .before in
     let i = l .before .before .loop .i in
     let j = l .loop2 .j in
-    let r = c .linked .result in
+    let r = c .linked-firsts .result in
     let last = l .loop2 .inv .1 in (
       omega arith,
       record {
         long = simp length-set (last .long);
         shown = λ ts h.
-            let column : j < length ts = omega (arith, h .count, c .before .before .before .loop2-test .taken) in
+            let column : j < length ts = omega (arith, h .count, turn .loop2-test .taken) in
             let row : i < length ts = omega (arith, l .loop2 .inv .0) in
-            let told = c .linked .ensures (treeOf ts i) (treeOf ts j) (h .each i row) (h .each j column) in
-            shows-more (At (Linked (start l .args .by)) ts) (l .loop2 .links) (length ts) i j (boolByte r) (h .few) column (omega (arith, last .long)) (says-byte r told) (last .shown ts h);
+            let noted = start l .pre .noted ts h in
+            let both = both-iff ts (start l .args .firsts .now) i j (noted i row) (noted j column) in
+            let told = c .linked-firsts .ensures (treeOf ts i) (treeOf ts j) (h .each i row) (h .each j column) in
+            shows-more (LinkedBy merged (Linked (start l .args .by)) ts) (l .loop2 .links) (length ts) i j (boolByte r) (h .few) column (omega (arith, last .long))
+            (linked-iff (says-byte r told) (c .before .before .before .both-first .ensures) both) (last .shown ts h);
       },
     )
 
@@ -118,8 +130,8 @@ loop-again c = passed (λ i j lt inside before. omega arith) (c .before .loop2 .
 returns : tie.Need-returns Inv-loop2 μ-loop2 Inv-loop μ-loop
 returns c ts h i j lt inside = c .before .loop .inv .shown ts h i j lt inside (omega (arith, h .count))
 
-pub link-trees-spec : {M : Type 1} → statement M
-link-trees-spec =
+pub link-firsts-spec : {M : Type 1} → statement M
+link-firsts-spec =
     tie.close
     (tie.spec
     Inv-loop2
@@ -129,11 +141,12 @@ link-trees-spec =
     loop-holds
     add-j
     loop2-holds
-    mul-linked
-    element-copy-out-linked
-    mul-linked-2
-    element-copy-out-linked-2
-    linked-requires
+    both-first-requires
+    mul-linked-firsts
+    element-copy-out-linked-firsts
+    mul-linked-firsts-2
+    element-copy-out-linked-firsts-2
+    linked-firsts-requires
     cast-links
     mul-links
     add-links
