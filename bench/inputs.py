@@ -19,6 +19,9 @@ Full tables, 160 trees of 64 leaves:
     interchange_chain  each tree one random interchange from the one before
     mixed_chains  a few chains of random moves, each from a random tree, in
                  random order
+    one_forest   one leaf hung on each node of one tree: all topologies are
+                 neighbours of each other.  There are 125, and the first of
+                 them come once more
 
 Without copies: `distinct_of_near_copies`, the first tree of each topology of
 `near_copies`.
@@ -212,7 +215,16 @@ def distinct(trees):
     return list(first.values())
 
 
-FULL_TABLES = (unrelated, chain, near_copies, combs, copies, interchange_chain, mixed_chains)
+def one_forest(rng, leaves):
+    """One leaf on each node of a tree of the others, in random order, as often
+    as they have room."""
+    remainder = random_tree(rng, leaves - 1)
+    trees = [replaced(remainder, path, (subtree(remainder, path), leaves)) for path in paths(remainder)]
+    rng.shuffle(trees)
+    return [trees[i % len(trees)] for i in range(TREES)]
+
+
+FULL_TABLES = (unrelated, chain, near_copies, combs, copies, interchange_chain, mixed_chains, one_forest)
 
 
 # Texts
@@ -237,18 +249,34 @@ def table_of(make, leaves):
     return [swapped(rng, tree) for tree in make(rng, leaves)]
 
 
+GROWING = (unrelated, chain)
+
+
+def sized(make, trees, leaves):
+    """The name of a table of this kind and size."""
+    if (trees, leaves) == (TREES, LEAVES):
+        return make.__name__
+    return "%s_%dx%d" % (make.__name__, trees, leaves)
+
+
+def growth_in_trees():
+    """Yield (kind, [(number of trees, name)]) for tables of all leaves."""
+    for make in GROWING:
+        yield make.__name__, [(number, sized(make, number, LEAVES)) for number in FEWER_TREES + (TREES,)]
+
+
 def inputs():
     """Yield (name, text) for each input, growing ones from small to large."""
     full = {make: table_of(make, LEAVES) for make in FULL_TABLES}
     for make, trees in full.items():
         yield make.__name__, text_of(trees)
     yield "distinct_of_near_copies", text_of(distinct(full[near_copies]))
-    for make in (unrelated, chain):
+    for make in GROWING:
         for number in FEWER_TREES:
-            yield "%s_%dx%d" % (make.__name__, number, LEAVES), text_of(full[make][:number])
-    for make in (unrelated, chain):
+            yield sized(make, number, LEAVES), text_of(full[make][:number])
+    for make in GROWING:
         for leaves in FEWER_LEAVES:
-            yield "%s_%dx%d" % (make.__name__, TREES, leaves), text_of(table_of(make, leaves))
+            yield sized(make, TREES, leaves), text_of(table_of(make, leaves))
 
 
 def write_inputs(directory):

@@ -1,20 +1,23 @@
 #!/usr/bin/env python3
-"""Compare the speed of a pair lister with the plain program's.
+"""Compare the speed of a pair lister with that of two programs in Rust.
 
-    run.py [OUR_PROGRAM] [--interchanges | --islands] [--repeat N]
+    run.py [OUR_PROGRAM] [--interchanges | --islands] [--repeat N] [--picture FILE]
 
 OUR_PROGRAM is the path of an executable that reads a table of trees from
 standard input and prints the sheet; if it is left out, the pair lister is built
 for this machine by tools/native.sh.  With --interchanges it is the program of
 tests/independent/interchanges.c, which bindings/test.sh builds, and both print
 the graph of interchanges.  With --islands it is the islands program, which
-tools/native.sh builds, and both print a line for each island.  The plain
-program is built first.  Both are run on each input of inputs.py.  The first run
-of each is for comparing the outputs; if they differ, or a table is refused, or
-a program is ended by a signal, the exit status is 1.
+tools/native.sh builds, and both print a line for each island.  The programs to
+compare with are built first: the plain one, and, for the sheet of pairs, the
+fast one.  All are run on each input of inputs.py.  The first run of each is for
+comparing the outputs; if they differ, or a table is refused, or a program is
+ended by a signal, the exit status is 1.
 
 The time of an input is the wall time of the whole process, the best of N runs,
-less the same for an empty input, which is what starting the process costs.
+less the same for an empty input, which is what starting the process costs.  The
+last column has the ratio to the last program with the start left in.  The
+picture, an SVG file, shows the times against the number of trees.
 """
 
 import argparse
@@ -28,9 +31,9 @@ import time
 from typing import Callable, NamedTuple, Optional, Tuple
 
 import inputs
+import picture
 
 HERE = os.path.dirname(os.path.abspath(__file__))
-PLAIN_PACKAGE = os.path.join(HERE, "plain")
 NATIVE = os.path.join(os.path.dirname(HERE), "tools", "native.sh")
 DEFAULT_REPEAT = 5
 # Starting a process is short and goes into every row, so it is measured often.
@@ -38,23 +41,24 @@ EMPTY_REPEAT_FACTOR = 20
 # Below this a time is mostly the noise of starting the process.
 SHORTEST_FOR_RATIO_MS = 0.05
 
-ROW = "%-23s %6s %7s %7s %10s %10s %11s"
+HEAD = "%-23s %6s %7s %8s"
+COLUMN = " %11s"
 
 
 class Failed(Exception):
     """Ends the run with status 1."""
 
 
-def build_plain():
-    """Build the plain program and give its path."""
-    target = os.path.join(PLAIN_PACKAGE, "target")
+def build_rust(name):
+    """Build the program in this folder and give its path."""
+    package = os.path.join(HERE, name)
+    target = os.path.join(package, "target")
     command = ["cargo", "build", "--release", "--offline", "--quiet", "--target-dir", target]
     try:
-        subprocess.run(command, cwd=PLAIN_PACKAGE, check=True)
+        subprocess.run(command, cwd=package, check=True)
     except (OSError, subprocess.CalledProcessError) as error:
-        raise Failed("the plain program cannot be built: %s" % error) from error
-    name = "plain.exe" if os.name == "nt" else "plain"
-    return os.path.join(target, "release", name)
+        raise Failed("the %s program cannot be built: %s" % (name, error)) from error
+    return os.path.join(target, "release", name + (".exe" if os.name == "nt" else ""))
 
 
 def build_ours(directory):
@@ -100,8 +104,8 @@ def best_times(commands, path, repeat):
 
 def compared_output(commands, path):
     """The output of the programs, which must be the same."""
-    ours, plain = (output_of(command, path) for command in commands)
-    if ours != plain:
+    ours, *others = (output_of(command, path) for command in commands)
+    if any(other != ours for other in others):
         raise Failed("the outputs differ on %s" % os.path.basename(path))
     return ours
 
@@ -122,16 +126,17 @@ def trees_and_islands(output):
 
 
 class Sheet(NamedTuple):
-    """What both programs print."""
+    """What the programs print."""
 
     option: Optional[str]  # the plain program's, the same as that of this script
+    others: Tuple[str, ...]  # the programs to compare with
     counted: str  # what is counted besides trees
     counts: Callable[[bytes], Optional[Tuple[int, int]]]
 
 
-PAIRS = Sheet(None, "pairs", trees_and_pairs)
-INTERCHANGES = Sheet("--interchanges", "pairs", trees_and_pairs)
-ISLANDS = Sheet("--islands", "islands", trees_and_islands)
+PAIRS = Sheet(None, ("plain", "fast"), "pairs", trees_and_pairs)
+INTERCHANGES = Sheet("--interchanges", ("plain",), "pairs", trees_and_pairs)
+ISLANDS = Sheet("--islands", ("plain",), "islands", trees_and_islands)
 
 
 def size_of(path, sheet, output):
@@ -145,11 +150,47 @@ def size_of(path, sheet, output):
     return counts[0], leaves, counts[1]
 
 
-def ratio_text(ours, plain):
-    """The ratio for the table; a dash where both times are too short."""
-    if plain < SHORTEST_FOR_RATIO_MS:
+def ratio_text(ours, other):
+    """The ratio for the table; a dash where the other time is too short."""
+    if other < SHORTEST_FOR_RATIO_MS:
         return "-"
-    return "%.2f" % (ours / plain)
+    return "%.2f" % (ours / other)
+
+
+def row(head, columns):
+    """A line of the table."""
+    return HEAD % head + "".join(COLUMN % column for column in columns)
+
+
+def headings(sheet):
+    """The first line of the table."""
+    columns = ["%s ms" % name for name in ("ours",) + sheet.others]
+    columns += ["ours/%s" % name for name in sheet.others]
+    return row(("input", "trees", "leaves", sheet.counted), columns + ["with start"])
+
+
+def columns_of(whole, less):
+    """Times less those of starting, their ratios, and the last of whole times."""
+    columns = ["%.2f" % spent for spent in less]
+    columns += [ratio_text(less[0], other) for other in less[1:]]
+    return columns + [ratio_text(whole[0], whole[-1])]
+
+
+def lines_of(programs, times):
+    """A line of the picture for each program and each kind of growing tables."""
+    lines = []
+    for i, (program, colour) in enumerate(zip(programs, picture.COLOURS)):
+        for (kind, steps), dash in zip(inputs.growth_in_trees(), picture.DASHES):
+            points = [(number, max(times[name][i], SHORTEST_FOR_RATIO_MS)) for number, name in steps]
+            lines.append(picture.Line("%s, %s" % (program, kind), colour, dash, points))
+    return lines
+
+
+def write_picture(path, programs, times):
+    """Draw the times of all programs into a file."""
+    drawn = picture.svg("Time for tables of %d leaves" % inputs.LEAVES, lines_of(programs, times))
+    with open(path, "w", encoding="utf-8") as file:
+        file.write(drawn)
 
 
 def cpu_model():
@@ -173,10 +214,12 @@ def rustc_version():
     return done.stdout.decode().strip()
 
 
-def run(ours, sheet, repeat, directory):
-    """Build, measure and print the table."""
+def run(ours, sheet, repeat, drawn, directory):
+    """Build, measure, print the table and draw the picture."""
     options = [sheet.option] if sheet.option else []
-    commands = ([ours or build_ours(directory)], [build_plain()] + options)
+    commands = [[ours or build_ours(directory)]]
+    commands += [[build_rust(name)] + options for name in sheet.others]
+    programs = ("ours",) + sheet.others
     print("CPU: %s, %d cores" % (cpu_model(), os.cpu_count() or 0))
     print(rustc_version())
 
@@ -185,16 +228,18 @@ def run(ours, sheet, repeat, directory):
         pass
     compared_output(commands, empty)
     start = best_times(commands, empty, repeat * EMPTY_REPEAT_FACTOR)
-    print("best of %d; process start (subtracted): ours %.2f ms, plain %.2f ms\n"
-          % (repeat, start[0], start[1]))
+    named = ", ".join("%s %.2f ms" % pair for pair in zip(programs, start))
+    print("best of %d; process start (subtracted): %s\n" % (repeat, named))
 
-    print(ROW % ("input", "trees", "leaves", sheet.counted, "ours ms", "plain ms", "ours/plain"))
+    print(headings(sheet))
+    times = {}
     for name, path in inputs.write_inputs(os.path.join(directory, "inputs")):
         size = size_of(path, sheet, compared_output(commands, path))
-        times = best_times(commands, path, repeat)
-        our_time, plain_time = (max(0.0, t - s) for t, s in zip(times, start))
-        print(ROW % ((name,) + size + ("%.2f" % our_time, "%.2f" % plain_time,
-                                       ratio_text(our_time, plain_time))), flush=True)
+        whole = best_times(commands, path, repeat)
+        times[name] = [max(0.0, spent - begun) for spent, begun in zip(whole, start)]
+        print(row((name,) + size, columns_of(whole, times[name])), flush=True)
+    if drawn:
+        write_picture(drawn, programs, times)
 
 
 def positive(text):
@@ -207,7 +252,7 @@ def positive(text):
 
 def main(arguments):
     """Read the command line and run; gives the exit status."""
-    parser = argparse.ArgumentParser(description="Compare a pair lister's speed with the plain program's.")
+    parser = argparse.ArgumentParser(description="Compare a pair lister's speed with that of two programs in Rust.")
     parser.add_argument("program", metavar="OUR_PROGRAM", nargs="?",
                         help="path of the pair lister; built for this machine if left out")
     others = parser.add_mutually_exclusive_group()
@@ -217,6 +262,7 @@ def main(arguments):
                         help="OUR_PROGRAM prints a line for each island")
     parser.set_defaults(sheet=PAIRS)
     parser.add_argument("--repeat", metavar="N", type=positive, default=DEFAULT_REPEAT)
+    parser.add_argument("--picture", metavar="FILE", help="where to write the picture")
     options = parser.parse_args(arguments)
     program = options.program and os.path.abspath(options.program)
     if program and (not os.access(program, os.X_OK) or os.path.isdir(program)):
@@ -225,7 +271,7 @@ def main(arguments):
         parser.error("%s needs OUR_PROGRAM" % options.sheet.option)
     try:
         with tempfile.TemporaryDirectory() as directory:
-            run(program, options.sheet, options.repeat, directory)
+            run(program, options.sheet, options.repeat, options.picture, directory)
     except Failed as failed:
         print("failed: %s" % failed, file=sys.stderr)
         return 1
