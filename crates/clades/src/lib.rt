@@ -1,7 +1,11 @@
 // Numbers beside the nodes of a held tree: each subtree's clade, label L at bit L - 1.
 use held::Tree;
+ghost use mathlib.Core.Path.{_≡_};
 ghost use lib.ListN.{length};
+ghost use Rattle.meaning.specs.Tree.{Tree as Topology, canon};
+ghost use Rattle.meaning.specs.Reading.{sameLabels};
 ghost use Rattle.meaning.specs.Clade.{clade};
+ghost use Rattle.held.specs.Kept.{Keeps, Kept};
 ghost use Rattle.clades.specs.Marks.{Whole, Noted};
 
 // Notes the clade of each subtree of n's tree at its node, from the last node back: a fork's children stand behind it. The
@@ -22,4 +26,23 @@ pub fn note(m: &mut [u64; Tree::MAX_NODES], n: &[u8])
             m[k] = m[first] + m[second];
         }
     }
+}
+
+// The labels of a tree as one number, the clade of its root.
+fn labels(tree: Tree) -> u64
+    requires { ⌜ Kept tree ⌝ }
+    ensures { λ r. ⌜ ((t : Topology) → Keeps tree t → r ≡ clade (canon t)) ⌝ }
+{
+    let n = tree.node;
+    let mut m = [0u64; Tree::MAX_NODES];
+    note(&mut m, &n);
+    m[0]
+}
+
+// Whether two trees have the same labels.
+pub fn same_labels(a: Tree, b: Tree) -> bool
+    requires { ⌜ Kept a × Kept b ⌝ }
+    ensures { λ r. ⌜ ((t u : Topology) → Keeps a t → Keeps b u → r ≡ sameLabels t u) ⌝ }
+{
+    labels(a) == labels(b)
 }

@@ -1,18 +1,15 @@
 // A held rooted binary tree: its nodes in preorder, one byte each. A leaf's byte is its label, 1 to 64; a fork's is 64 and
 // the number of leaves below it. A fork's first child is the next node, and a subtree is one run of bytes. And a table of them.
 ghost use mathlib.Core.Path.{_≡_};
-ghost use mathlib.Core.List.{List, [], _∷_};
+ghost use mathlib.Core.List.{List, []};
 ghost use Prim.Native.Nat.{_+_, _-_, _≤_, _<_};
 ghost use lib.ListN.{length, replicate};
 ghost use Rattle.meaning.specs.Limits.{maxNodes, maxTrees};
-ghost use Rattle.meaning.specs.Lists.{within};
 ghost use Rattle.meaning.specs.Tree.{Tree as Topology, leaves as leavesOf, SameTopology, canon};
-ghost use Rattle.meaning.specs.Reading.{sameLabels};
 ghost use Rattle.lent.specs.Runs.{Wrote, Says};
 ghost use Rattle.held.specs.Held.{Holds, Held, Room, Noted, Marked, Cuts, HasCut, nodes, pre, hold, cutIn};
 ghost use Rattle.held.specs.Kept.{Keeps, Kept, KeepsAll, KeptAll, Adds};
 ghost use Rattle.meaning.specs.Copies.{firstsOf};
-ghost use Rattle.held.specs.Labels.{labelsIn};
 
 // A tree in canonical order: equal bytes are equal topologies, and node number c + 1 is cut number c.
 pub struct Tree {
@@ -201,45 +198,6 @@ fn cut_node(out: &mut [u8], at: usize, n: &[u8], k: usize, c: usize, gone: u8) -
         let next = copy_node(out, at + 1, n, first);
         cut_node(out, next, n, second, c, gone)
     }
-}
-
-// Whether a byte is no label (a fork's, or the 0 behind a tree's nodes) or a label among the nodes n.
-fn has(n: &[u8], b: u8) -> bool
-    ensures { λ r. ⌜ r ≡ within (labelsIn (b ∷ [])) (labelsIn (now (n .entry))) ⌝ }
-{
-    if b == 0 {
-        return true;
-    }
-    if Tree::MAX_LABEL < b {
-        return true;
-    }
-    lent::contains(n, n.len(), lent::wide(b))
-}
-
-// Whether each label among the nodes n is one among the nodes m.
-fn covered(n: &[u8], m: &[u8]) -> bool
-    ensures { λ r. ⌜ r ≡ within (labelsIn (now (n .entry))) (labelsIn (now (m .entry))) ⌝ }
-{
-    let mut i = 0;
-    while i < n.len() {
-        if !has(m, n[i]) {
-            return false;
-        }
-        i += 1;
-    }
-    true
-}
-
-// A held tree's labels are the bytes 1 to 64 of its array: each of one tree's is looked for in the other.
-pub fn same_labels(a: Tree, b: Tree) -> bool
-    ensures { λ r. ⌜ ((t u : Topology) → Keeps a t → Keeps b u → r ≡ sameLabels t u) ⌝ }
-{
-    let first = a.node;
-    let second = b.node;
-    if !covered(&first, &second) {
-        return false;
-    }
-    covered(&second, &first)
 }
 
 // Whether two trees have one topology: each is in canonical order, so exactly where their bytes are equal.

@@ -8,7 +8,7 @@ ghost use mathlib.Core.List.{List};
 ghost use Rattle.meaning.specs.Tree.{Tree as Topology};
 ghost use Rattle.meaning.specs.Reading.{unlike as unlikeOf, likeFirst, readTable};
 ghost use Rattle.meaning.specs.Answer.{refusal};
-ghost use Rattle.held.specs.Kept.{Keeps, KeepsAll};
+ghost use Rattle.held.specs.Kept.{Keeps, Kept, KeepsAll, KeptAll};
 ghost use Rattle.reading.specs.Paper.{stepAnswer};
 ghost use Rattle.reading.specs.Whole.{TableMeets};
 
@@ -20,9 +20,10 @@ pub struct TableRead {
 
 // The line by which b can't stand beside a, or 0 where it fits.
 pub fn unlike(a: Tree, b: Tree) -> u8
+    requires { ⌜ Kept a × Kept b ⌝ }
     ensures { λ r. ⌜ ((t u : Topology) → Keeps a t → Keeps b u → r ≡ unlikeOf t u) ⌝ }
 {
-    if held::same_labels(a, b) {
+    if clades::same_labels(a, b) {
         0
     } else {
         Refusal::LABELS_DIFFER
@@ -31,6 +32,7 @@ pub fn unlike(a: Tree, b: Tree) -> u8
 
 // The line by which the tree can't stand beside the table's first, if there is one.
 fn like_first(table: Table, tree: Tree) -> u8
+    requires { ⌜ KeptAll table × Kept tree ⌝ }
     ensures { λ r. ⌜ ((ts : List Topology) (t : Topology) → KeepsAll table ts → Keeps tree t → r ≡ likeFirst ts t) ⌝ }
 {
     if table.len == 0 {

@@ -60,7 +60,9 @@ tree-read c =
     tree-in (head read .loop .inv) (read .before .before .before .loop-test .taken) (read .before .if1 .left) (read .read-at .ensures) (c .before .step .given .1)
 
 like-first-requires : tie.Need-like-first-requires Inv-loop μ-loop
-like-first-requires c κs = search needs
+like-first-requires c κs =
+    let t = tree-read c in
+    (record { trees = t .state .done; keeps = t .state .keeps }, record { topology = t .tree; keeps = t .keeps })
 
 sub-refuse : tie.Need-sub-refuse Inv-loop μ-loop
 sub-refuse c = omega (arith, tree-read (c .before .before) .place)
