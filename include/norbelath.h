@@ -2,9 +2,9 @@
  * Norbelath: rooted binary trees as texts, and which of them are one prune and regraft apart.
  *
  * Nine calls over lent memory. They allocate nothing, keep nothing between calls and may be called from several
- * threads at once. On x86-64 the table, graph, interchange and islands calls use up to 140 KB of stack, and the sheet
- * call up to 210 KB. Any bytes may be given as a text: what is not as it should be is refused, with the reason and the
- * place.
+ * threads at once. On x86-64 the table call uses up to 120 KB of stack, the graph, interchange and islands calls up to
+ * 340 KB, and the sheet call up to 420 KB. Any bytes may be given as a text: what is not as it should be is refused,
+ * with the reason and the place.
  *
  * A text is a pointer and its length in bytes; it needs no byte 0 at its end. A lent slice is a pointer and its length in
  * elements. No pointer is NULL. The slices and numbers that a call may write overlap neither each other nor a text.

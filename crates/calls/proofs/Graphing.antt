@@ -22,9 +22,11 @@ use Rattle.reading.specs.declared.Step.the-variants.{Next, Refused as StepRefus
 use Rattle.reading.specs.declared.tables.TableRead.{TableRead}
 use Rattle.pairs.specs.declared.Link.{Link}
 use Rattle.pairs.specs.declared.Link.the-variants.{Move}
-use Rattle.graph.specs.Graph.{ListRoom, Graph, OfTrees}
-use Rattle.graph.specs.Copies.{choiceOf, GraphRoom, FirstsGraph, GraphWritten}
-use Rattle.graph.specs.declared.copies.Copies.{Copies}
+use Rattle.links.specs.Links.{OfTrees}
+use Rattle.links.specs.Copies.{choiceOf}
+use Rattle.links.specs.declared.Copies.{Copies}
+use Rattle.graph.specs.Graph.{ListRoom, Graph}
+use Rattle.graph.specs.Copies.{GraphRoom, FirstsGraph, GraphWritten}
 use Rattle.graph.specs.Islands.{IslandGraphRoom, IslandsWritten}
 use Rattle.reading.specs.Lent.{TableLent}
 use Rattle.calls.specs.Paper.{graphOutcome, firstsOutcome, islandsOutcome}

@@ -1,7 +1,7 @@
 // The public calls. None asks anything of its caller: what cannot be answered is refused, and a refusal changes no lent cell.
-use graph::Copies;
 use held::Table;
 use held::Tree;
+use links::Copies;
 use pairs::Link;
 use reading::Refusal;
 use reading::Step;
@@ -19,8 +19,9 @@ ghost use Rattle.meaning.specs.Calls.{formCall, cutCall, beside, PairCall, tabl
 ghost use Rattle.meaning.specs.Sheet.{SheetCall};
 ghost use Rattle.held.specs.Held.{nodes};
 ghost use Rattle.held.specs.Kept.{Keeps, Kept, KeptAll};
-ghost use Rattle.graph.specs.Graph.{slices, ListRoom, Graph, OfTrees};
-ghost use Rattle.graph.specs.Copies.{choiceOf};
+ghost use Rattle.links.specs.Links.{OfTrees};
+ghost use Rattle.links.specs.Copies.{choiceOf};
+ghost use Rattle.graph.specs.Graph.{slices, ListRoom, Graph};
 ghost use Rattle.calls.specs.Paper.{textOutcome, pairAnswer, tableOutcome, graphOutcome, firstSlices, firstsOutcome, islandSlices, islandsOutcome};
 ghost use Rattle.calls.specs.Cuts.{CutRoom, cutText};
 ghost use Rattle.calls.specs.Paired.{Answers};

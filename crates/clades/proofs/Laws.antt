@@ -10,14 +10,13 @@ use lib.ListN.{length, getD, set}
 use lib.Dec.{lit<}
 use lib.Pow.{shl-exact}
 use lib.Seq.{getD-set-same, getD-set-other}
-use Rattle.meaning.specs.Limits.{maxLabel, maxNodes}
+use Rattle.meaning.specs.Limits.{maxLabel}
 use Rattle.meaning.specs.Tree.{Tree, leaf, fork, In, tip, Good}
 use Rattle.meaning.specs.Clade.{clade}
 use Rattle.meaning.proofs.Same.{good-first, good-second}
 use Rattle.meaning.proofs.Clade.{clade-fits}
-use Rattle.meaning.proofs.Length.{leaves-64}
 use Rattle.held.specs.Held.{nodes, Holds}
-use Rattle.held.proofs.Laws.{children, unique, twice, some-nodes, ForkAt, fork-nodes, leafed, forked, second-at}
+use Rattle.held.proofs.Laws.{children, unique, some-nodes, ForkAt, fork-nodes, leafed, forked, second-at}
 use Rattle.clades.specs.Marks.{Marks}
 
 -- a good tree is held at k and ends before `end`
@@ -49,10 +48,6 @@ node-from (fork a b) {xs} {j} h G k le lt =
 
 pub node-in : (t : Tree) {xs : List ℕ} → Holds xs 0 t → Good t → (k : ℕ) → k < nodes t → Sub xs k (nodes t)
 node-in t h G k lt = wider (omega arith) (node-from t h G k (omega arith) (omega arith))
-
--- a good tree has at most as many nodes as there is room for
-pub few-nodes : {t : Tree} → Good t → nodes t ≤ maxNodes
-few-nodes {t} G = omega (arith, leaves-64 G, twice t)
 
 -- one mark more
 pub marks-more : (f : Tree → ℕ) (xs m : List ℕ) (k to v : ℕ) → k < length m → ((s : Tree) → Holds xs k s → v ≡ f s)

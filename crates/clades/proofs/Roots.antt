@@ -1,7 +1,6 @@
 -- The clade of a tree's root: it is noted at the first node, and equal clades are equal label sets.
 -- Assumes nothing.
-use mathlib.Core.Path.{_≡_, refl, sym}
-use mathlib.Core.Bool.{Bool, true, false}
+use mathlib.Core.Path.{_≡_}
 use mathlib.Core.Logic.{_↔_}
 use mathlib.Core.List.{List}
 use Prim.Native.Nat.{ℕ}
@@ -15,6 +14,7 @@ use Rattle.meaning.specs.Clade.{clade}
 use Rattle.meaning.proofs.Alike.{same-labels-iff}
 use Rattle.meaning.proofs.Canon.{canon-≈, canon-good}
 use Rattle.meaning.proofs.Clade.{clade-iff}
+use Rattle.meaning.proofs.Logic.{both-tests}
 use Rattle.meaning.proofs.Same.{≈-clade, clade-trans}
 use Rattle.held.specs.Kept.{Keeps}
 use Rattle.held.specs.declared.Tree.{Tree}
@@ -24,12 +24,6 @@ use Rattle.clades.specs.Marks.{Noted}
 
 pub root-noted : {tree : Tree} {t : Topology} (m : List ℕ) → Keeps tree t → Noted clade (tree .node) m → getD m 0 0 ≡ clade (canon t)
 root-noted {t} m k noted = noted (canon t) (keeps-holds k) 0 (omega arith) (omega (arith, some-nodes (canon t))) (canon t) (keeps-holds k)
-
--- two tests that pass at the same time are the same
-both-tests : (a b : Bool) → (a ≡ true) ↔ (b ≡ true) → a ≡ b
-both-tests true b h = sym (h .0 refl)
-both-tests false true h = h .1 refl
-both-tests false false h = refl
 
 module _ {t u : Topology} (g : Good t) (h : Good u) where
   canon-clade : SameClade (canon t) (canon u) ↔ SameClade t u

@@ -1,5 +1,4 @@
-pub mod Bytes
-pub mod Linked
+pub mod Firsts
 pub mod Listed
 pub mod Stores
 pub mod Turns

@@ -21,7 +21,7 @@ use Rattle.lent.proofs.Runs.{sets-start, wrote-one, wrote-more, wrote-length, w
 use Rattle.held.specs.declared.Table.{Table}
 use Rattle.pairs.specs.declared.Link.the-variants.{Move}
 use Rattle.graph.specs.Copies.{GraphWritten}
-use Rattle.graph.specs.declared.copies.Copies.the-variants.{Merged}
+use Rattle.links.specs.declared.Copies.the-variants.{Merged}
 use Rattle.graph.specs.Listed.{PairsListed}
 use Rattle.graph.specs.Islands.{IslandsRoom, IslandGraphRoom, IslandsWritten}
 use Rattle.graph.proofs.Listed.{pair-first, pair-second, graph-pairs}

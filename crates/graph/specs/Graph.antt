@@ -1,39 +1,15 @@
--- Which positions are linked, as bytes; what listing the linked positions asks of the lent slices, and what it leaves in them.
+-- Listing and counting linked positions: what it asks of the lent slices, and what it leaves in them.
 -- Assumes nothing.
 use mathlib.Core.Path.{_≡_}
-use mathlib.Core.Logic.{_↔_}
-use mathlib.Core.Bool.{Bool}
 use mathlib.Core.List.{List, [], _∷_}
 use Prim.Native.Nat.{ℕ, _+_, _*_, _≤_, _<_}
-use lib.Dec.{eqb}
 use lib.ListN.{length, getD, set}
 use Rattle.meaning.specs.Limits.{maxTrees, pairNumbers}
 use Rattle.meaning.specs.Lists.{more}
-use Rattle.meaning.specs.Tree.{Tree as Topology}
 use Rattle.meaning.specs.Listing.{Pair, Listing, counts, flat}
 use Rattle.meaning.specs.Answer.{GraphMemory}
 use Rattle.lent.specs.Runs.{Wrote}
-use Rattle.held.specs.Kept.{KeepsAll}
-use Rattle.held.specs.declared.Table.{Table}
 
--- ---- links
--- a byte for each two positions of a table
-abbrev pub linkBytes : ℕ
-linkBytes = maxTrees * maxTrees
-
--- the byte of row i and column j is 1
-abbrev pub LinkedIn : List ℕ → ℕ → ℕ → Type 0
-LinkedIn links i j = getD links (i * maxTrees + j) 0 ≡ 1
-
--- the same as a test
-abbrev pub linked? : List ℕ → ℕ → ℕ → Bool
-linked? links i j = eqb (getD links (i * maxTrees + j) 0) 1
-
--- among k positions the bytes show which are linked by L
-abbrev pub Shows : List ℕ → ℕ → (ℕ → ℕ → Type 0) → Type 0
-Shows links k L = (i j : ℕ) → i < j → j < k → LinkedIn links i j ↔ L i j
-
--- ---- listing and counting
 -- the lent slices: for the pairs, and for the neighbour counts
 abbrev pub slices : List ℕ → List ℕ → GraphMemory
 slices pairs numbers = record { pairs = pairs; counts = numbers }
@@ -83,8 +59,3 @@ pub record Graph (k : ℕ) (L : ℕ → ℕ → Type 0) (memory memory′ : Grap
   pub many : r ≡ length linked
   pub in-pairs : Wrote (flat linked) (memory .pairs) (memory′ .pairs) 0 (2 * length linked)
   pub in-counts : Wrote (counts k linked) (memory .counts) (memory′ .counts) 0 k
-
--- ---- tables
--- P is so of whatever trees the table keeps
-abbrev pub OfTrees : Table → (List Topology → Type 0) → Type 0
-OfTrees table P = (ts : List Topology) → KeepsAll table ts → P ts

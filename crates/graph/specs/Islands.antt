@@ -12,10 +12,10 @@ use Rattle.meaning.specs.Copies.{MergedIslands}
 use Rattle.lent.specs.Runs.{Wrote}
 use Rattle.held.specs.declared.Table.{Table}
 use Rattle.pairs.specs.declared.Link.the-variants.{Move}
-use Rattle.graph.specs.Graph.{OfTrees}
+use Rattle.links.specs.Links.{OfTrees}
+use Rattle.links.specs.declared.Copies.the-variants.{Merged}
 use Rattle.graph.specs.Copies.{GraphRoom, FirstsGraph}
 use Rattle.graph.specs.Listed.{PairsListed}
-use Rattle.graph.specs.declared.copies.Copies.the-variants.{Merged}
 
 -- there is room for the numbers of n positions, `firsts` begins with theirs, and `pairs` with m pairs of them
 pub record IslandsRoom (numbers firsts : List ℕ) (n : ℕ) (pairs : List ℕ) (m : ℕ) : Type 0 where

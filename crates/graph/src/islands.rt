@@ -1,7 +1,7 @@
 // Islands: positions that chains of listed pairs join, and their copies. The number of each is the smallest position in it.
-use super::Copies;
 use super::list_pairs;
 use held::Table;
+use links::Copies;
 use pairs::Link;
 ghost use mathlib.Core.Path.{_≡_};
 ghost use mathlib.Core.List.{List, map};

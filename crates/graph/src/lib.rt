@@ -1,23 +1,17 @@
-// The graph of a table: which of its positions are linked, listing and counting the linked positions, and its islands.
-pub mod copies;
+// The graph of a table: listing and counting its linked positions, and its islands.
 pub mod islands;
 
-pub use copies::Copies;
 use held::Table;
 pub use islands::list_islands;
+use links::Copies;
+use links::Links;
 use pairs::Link;
 ghost use Prim.Native.Nat.{_≤_, _<_};
 ghost use Rattle.meaning.specs.Limits.{maxTrees};
 ghost use Rattle.meaning.specs.Loops.{row};
-ghost use Rattle.graph.specs.Graph.{LinkedIn, linked?, slices, PairRoom, PairAdded, PairsRoom, Listed, ListRoom, Graph};
+ghost use Rattle.links.specs.Links.{LinkedIn, linked?};
+ghost use Rattle.graph.specs.Graph.{slices, PairRoom, PairAdded, PairsRoom, Listed, ListRoom, Graph};
 ghost use Rattle.graph.specs.Copies.{GraphRoom, GraphWritten};
-
-// A byte for each two positions, that of row i and column j at i * MAX_TREES + j: 1 where i and j are linked.
-pub struct Links {}
-
-impl Links {
-    pub const SIZE: usize = Table::MAX_TREES * Table::MAX_TREES;
-}
 
 // Lists the pair of i and j as number m, and counts it at both; returns the next number.
 fn add_pair(pairs: &mut [u16], counts: &mut [u16], m: usize, i: usize, j: usize) -> usize
@@ -94,6 +88,6 @@ pub fn list_pairs(
 {
     held::note_firsts(firsts, table);
     let mut links = [0u8; Links::SIZE];
-    copies::link_positions(&mut links, table, firsts, by, copies);
+    links::link_positions(&mut links, table, firsts, by, copies);
     list_links(pairs, counts, &links, table.len)
 }

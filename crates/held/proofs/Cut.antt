@@ -9,11 +9,12 @@ use lib.ListN.{length, getD, set, replicate}
 use Rattle.meaning.specs.Tree.{Tree, leaf, fork, leaves, In, Small, canon, Canonical}
 use Rattle.meaning.specs.Move.{Prune, first, second, in-first, in-second, Cut, deeper, cuts, cutAt}
 use Rattle.meaning.proofs.Cuts.{cut-first, cut-in-first, cut-second, cut-in-second}
+use Rattle.meaning.proofs.Labels.{some-leaves}
 use Rattle.meaning.proofs.Lists.{numbered}
 use Rattle.meaning.proofs.Moves.{IsCut, prune-in, cut-prune, cuts-length}
 use Rattle.lent.specs.Runs.{Wrote}
 use Rattle.held.specs.Held.{nodes, pre, Holds, hold, cutIn, HasCut, Cuts}
-use Rattle.held.proofs.Laws.{length-pre, twice, some-leaves, children, ForkAt, fork-nodes, forked-by, inside, each, second-at, holding, wrote-fork}
+use Rattle.held.proofs.Laws.{length-pre, twice, children, ForkAt, fork-nodes, forked-by, inside, each, second-at, holding, wrote-fork}
 
 -- the default of a list of cuts, which no cut's number reaches
 abbrev whole : Tree → Cut

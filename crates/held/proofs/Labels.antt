@@ -1,18 +1,18 @@
 -- The labels among bytes: of a tree's nodes they are the tree's.
 -- Assumes nothing.
 use mathlib.Core.Path.{_≡_, refl, ap, ap₂, _∙_}
-use mathlib.Core.Bool.{Bool, true, false, cond, _||_}
+use mathlib.Core.Bool.{Bool, true, false, cond}
 use mathlib.Core.List.{List, [], _∷_, _++_, List·Memᴰ, List·Memᴰ·head, List·Memᴰ·tail, List·Memᴰ·not-nil}
 use Prim.Native.Nat.{ℕ, _+_, _≤_}
 use native.Mathlib.Omega.{arith}
-use borrow.Author.Tests.{le-leb, lt-leb, leb-true, ne-eqb}
-use lib.Dec.{leb, eqb}
-use Rattle.meaning.specs.Lists.{member}
+use borrow.Author.Tests.{le-leb, lt-leb, leb-true}
+use lib.Dec.{leb}
 use Rattle.meaning.specs.Tree.{Tree, leaf, fork, tip, Small, labels, leaves}
-use Rattle.meaning.proofs.Logic.{clash, and-left, and-right}
+use Rattle.meaning.proofs.Labels.{some-leaves}
+use Rattle.meaning.proofs.Logic.{and-left, and-right}
 use Rattle.held.specs.Held.{pre}
 use Rattle.held.specs.Labels.{isLabel, labelsIn}
-use Rattle.held.proofs.Laws.{some-leaves, small-first, small-second}
+use Rattle.held.proofs.Laws.{small-first, small-second}
 
 label-yes : (v : ℕ) → 1 ≤ v → v ≤ 64 → isLabel v ≡ true
 label-yes v l h = rw (le-leb 1 v l, le-leb v 64 h)
@@ -47,13 +47,3 @@ labelsIn-range (x ∷ xs) l m = by (isLabel x) refl (labelsIn-range xs l) m
     by : (d : Bool) → isLabel x ≡ d → (List·Memᴰ l (labelsIn xs) → (1 ≤ l) × (l ≤ 64)) → List·Memᴰ l (cond d (x ∷ labelsIn xs) (labelsIn xs)) → (1 ≤ l) × (l ≤ 64)
     by true e f n = here e f n
     by false e f n = f n
-
--- a label is among the bytes exactly when it is among their labels
-pub member-labels : (v : ℕ) (xs : List ℕ) → 1 ≤ v → v ≤ 64 → member v xs ≡ member v (labelsIn xs)
-unfolding labelsIn member
-member-labels v [] l h = refl
-member-labels v (x ∷ xs) l h = by (isLabel x) refl (member-labels v xs l h)
-  where
-    by : (d : Bool) → isLabel x ≡ d → member v xs ≡ member v (labelsIn xs) → (eqb x v || member v xs) ≡ member v (cond d (x ∷ labelsIn xs) (labelsIn xs))
-    by true e f = ap (λ (b : Bool). eqb x v || b) f
-    by false e f = rw (ne-eqb x v (λ q. let z = label-yes v l h in let w : isLabel v ≡ false = rw (← q) e in clash cc)) f

@@ -6,7 +6,10 @@ use Prim.Native.Nat.{ℕ, _+_, _*_, _-_, _≤_, _<_}
 use native.Mathlib.Omega.{arith}
 use lib.ListN.{length, take, drop, getD, set, replicate, length-append, length-drop}
 use lib.Seq.{take-append-seam}
-use Rattle.meaning.specs.Tree.{Tree, leaf, fork, leaves, In, tip, Small}
+use Rattle.meaning.specs.Limits.{maxNodes}
+use Rattle.meaning.specs.Tree.{Tree, leaf, fork, leaves, In, tip, Small, Good}
+use Rattle.meaning.proofs.Labels.{some-leaves}
+use Rattle.meaning.proofs.Length.{leaves-64}
 use Rattle.lent.specs.Runs.{Wrote}
 use Rattle.lent.proofs.Runs.{sets-start, wrote-one, wrote-more}
 use Rattle.held.specs.Held.{nodes, byte, pre, Holds, hold}
@@ -24,9 +27,9 @@ pub some-nodes : (t : Tree) → 1 ≤ nodes t
 some-nodes (leaf l) = omega arith
 some-nodes (fork a b) = omega arith
 
-pub some-leaves : (t : Tree) → 1 ≤ leaves t
-some-leaves (leaf l) = omega arith
-some-leaves (fork a b) = omega (arith, some-leaves a)
+-- a good tree has at most as many nodes as there is room for
+pub few-nodes : {t : Tree} → Good t → nodes t ≤ maxNodes
+few-nodes {t} G = omega (arith, leaves-64 G, twice t)
 
 pub small-first : {a b : Tree} → Small (fork a b) → Small a
 small-first s l i = s l (In.first i)

@@ -2,12 +2,12 @@
 -- Assumes nothing.
 use mathlib.Core.Path.{_≡_, refl, sym, ap, ap₂, subst, subst₂, _∙_}
 use mathlib.Core.List.{List, [], _∷_, _++_, map}
-use Prim.Native.Nat.{ℕ, suc, _+_, _-_, _≤_, _<_}
+use Prim.Native.Nat.{ℕ, zero, suc, _+_, _-_, _≤_, _<_}
 use native.Mathlib.Nat.{add-zero, zero-add}
 use native.Mathlib.Omega.{arith}
 use native.Mathlib.Numerals.{add-one}
-use lib.ListN.{length, take, drop, getD, set, replicate, replicate-append-replicate, length-append, length-drop, List·getD-append}
-use lib.Seq.{set-comm, take-suc, drop-drop, drop-append-seam, getD-drop, getD-append-add, take-at, drop-at, sets, sets-eq, length-sets}
+use lib.ListN.{length, take, drop, getD, set, replicate, replicate-append-replicate, length-append, length-drop, length-set, List·getD-append}
+use lib.Seq.{set-comm, take-suc, drop-drop, drop-append-seam, getD-drop, getD-append-add, getD-set-same, getD-set-other, take-at, drop-at, sets, sets-eq, length-sets}
 use Rattle.meaning.specs.Lists.{positions}
 use Rattle.meaning.proofs.Sums.{map-suc}
 use Rattle.lent.specs.Runs.{Stands, Wrote}
@@ -46,6 +46,21 @@ module _ {A : Type 0} where
 
   pub sets-at : (d : A) (out ys : List A) → length ys ≤ length out → (i : ℕ) → i < length ys → getD (sets out 0 ys) i d ≡ getD ys i d
   sets-at d out ys fits i inside = rw (sets-start out ys fits) (List·getD-append ys (drop (length ys) out) d i inside)
+
+  -- what a run of stores leaves: outside the run what was there, and inside it the run
+  pub sets-outside : (d : A) (out : List A) (at : ℕ) (ys : List A) (i : ℕ) → (at ≤ i → at + length ys ≤ i) → getD (sets out at ys) i d ≡ getD out i d
+  sets-outside d out at [] i away = refl
+  sets-outside d out at (y ∷ ys) i away =
+      sets-outside d (set out at y) (suc at) ys i (λ h. omega (arith, away (omega arith))) ∙ getD-set-other out at i y d (λ e. omega (arith, away (omega arith)))
+
+  pub sets-inside : (d : A) (out : List A) (at : ℕ) (ys : List A) → at + length ys ≤ length out → (i : ℕ) → i < length ys → getD (sets out at ys) (at + i) d ≡ getD ys i d
+  sets-inside d out at [] fits i inside = absurd (omega arith)
+  sets-inside d out at (y ∷ ys) fits zero inside =
+      ap (λ (k : ℕ). getD (sets (set out at y) (suc at) ys) k d) (add-zero at) ∙ sets-outside d (set out at y) (suc at) ys at (λ h. absurd (omega arith))
+      ∙ getD-set-same out at y d (omega arith)
+  sets-inside d out at (y ∷ ys) fits (suc i) inside =
+      let e : at + suc i ≡ suc at + i = omega arith in
+      ap (λ (k : ℕ). getD (sets (set out at y) (suc at) ys) k d) e ∙ sets-inside d (set out at y) (suc at) ys (simp length-set (omega arith)) i (omega arith)
 
   -- one element, two, and one run after another
   pub wrote-one : (out : List A) (at : ℕ) (v : A) → Wrote (v ∷ []) out (set out at v) at (at + 1)

@@ -46,7 +46,7 @@ module _ {numbers tallies tallies′ : List ℕ} {n : ℕ} (room : TallyRoom tal
   }
 
 -- ---- counted from zero on, in k places
-zeros-at : (k x : ℕ) → _≡_ {A = ℕ} (getD (replicate k 0) x 0) 0
+pub zeros-at : (k x : ℕ) → _≡_ {A = ℕ} (getD (replicate k 0) x 0) 0
 zeros-at zero x = refl
 zeros-at (suc k) zero = refl
 zeros-at (suc k) (suc x) = zeros-at k x

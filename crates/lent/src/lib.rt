@@ -1,8 +1,7 @@
-// Lent memory: runs of elements copied, cleared, compared and looked through.
+// Lent memory: runs of elements copied, cleared, compared and counted.
 ghost use mathlib.Core.Path.{_≡_};
 ghost use Prim.Native.Nat.{_+_, _≤_};
 ghost use lib.ListN.{length, take, drop, replicate};
-ghost use Rattle.meaning.specs.Lists.{member};
 ghost use Rattle.lent.specs.Runs.{Wrote, SameRun, Common, Says};
 ghost use Rattle.lent.specs.Tallies.{TallyRoom, Tallied};
 
@@ -68,19 +67,4 @@ pub fn common(x: &[u8], y: &[u8], n: usize) -> usize
         i += 1;
     }
     i
-}
-
-// Whether v is one of the first n bytes of s.
-pub fn contains(s: &[u8], n: usize, v: usize) -> bool
-    requires { ⌜ n ≤ length (now s) ⌝ }
-    ensures { λ r. ⌜ r ≡ member v (take n (now (s .entry))) ⌝ }
-{
-    let mut i = 0;
-    while i < n {
-        if wide(s[i]) == v {
-            return true;
-        }
-        i += 1;
-    }
-    false
 }

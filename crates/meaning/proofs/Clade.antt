@@ -1,6 +1,6 @@
 -- Clades as numbers: a good tree's number has its labels, so equal numbers are equal clades, and the tests of bits are those of clades.
 -- Assumes nothing.
-use mathlib.Core.Path.{_≡_, sym, _∙_, subst}
+use mathlib.Core.Path.{_≡_, refl, sym, _∙_, subst}
 use mathlib.Core.Logic.{_↔_, _⊎_, inl, inr}
 use Prim.Native.Nat.{ℕ, suc, _-_, _≤_, _<_}
 use native.Mathlib.Omega.{arith}
@@ -9,7 +9,7 @@ use lib.Pow.{pow-pos, pow-lt}
 use Rattle.meaning.specs.Tree.{Tree, leaf, fork, In, tip, Distinct, Good, _⊆_, SameClade, least}
 use Rattle.meaning.specs.Clade.{HasLabel, lowest, inside, disjoint, clade}
 use Rattle.meaning.proofs.Logic.{iff-then}
-use Rattle.meaning.proofs.Same.{good-first, good-second, in-leaf}
+use Rattle.meaning.proofs.Same.{_≈_, one, same, swap, good-first, good-second, in-leaf}
 use Rattle.meaning.proofs.Canon.{least-in, least-le}
 use Rattle.meaning.proofs.LabelBits.{Clear, Under, clear-iff, under-iff, under-same, inside-iff, disjoint-iff, label-add, add-lt, label-pow, lowest-in, lowest-le}
 
@@ -50,6 +50,12 @@ children-clear {a} {b} G = clear-children a b (label-iff (good-first G)) (label-
 pub clade-fits : {t : Tree} → Good t → clade t < 18446744073709551616
 clade-fits {t = leaf n} G = let h = G .small n tip in pow-lt {j = 64} (omega arith)
 clade-fits {t = fork a b} G = add-lt 64 (children-clear G) (clade-fits (good-first G)) (clade-fits (good-second G))
+
+-- whatever the order of children
+pub clade-≈ : {t u : Tree} → t ≈ u → clade t ≡ clade u
+clade-≈ one = refl
+clade-≈ (same p q) = omega (arith, clade-≈ p, clade-≈ q)
+clade-≈ (swap p q) = omega (arith, clade-≈ p, clade-≈ q)
 
 -- ---- two clades
 under-clade : {s t : Tree} → Good s → Good t → Under (clade s) (clade t) ↔ (s ⊆ t)

@@ -1,11 +1,12 @@
 -- An interchange is a move, gives another topology, can be undone, and hangs on the topologies only.
 -- Assumes nothing.
 use mathlib.Core.Path.{_≡_}
-use Prim.Native.Nat.{ℕ, _≤_}
+use Prim.Native.Nat.{ℕ}
 use native.Mathlib.Omega.{arith}
-use Rattle.meaning.specs.Tree.{Tree, leaf, fork, In, Distinct, SameTopology, leaves}
+use Rattle.meaning.specs.Tree.{Tree, fork, In, Distinct, SameTopology, leaves}
 use Rattle.meaning.specs.Move.{Prune, Graft, above, on-first, on-second, OneMove, Apart}
 use Rattle.meaning.specs.Interchange.{Forks, in-order, turned, Interchange, here, OneInterchange}
+use Rattle.meaning.proofs.Labels.{some-leaves}
 use Rattle.meaning.proofs.Same.{_≈_, same, swap, ≈-refl, ≈-sym, ≈-trans, ≈-in, ≈-distinct, ≈-leaves, ≈-topology, topology-≈, topology-sym, topology-trans, flip, some}
 use Rattle.meaning.proofs.Moves.{prune-distinct, graft-distinct}
 
@@ -78,12 +79,8 @@ pub unlike : {a b : Tree} → ((l : ℕ) → In l a → In l b → ⊥) → a �
 unlike {a} f e = let (l, i) = some a in f l i (≈-in e l i)
 
 -- and so do a tree and a fork that it is a child of
-leaves-some : (t : Tree) → 1 ≤ leaves t
-leaves-some (leaf l) = omega arith
-leaves-some (fork a b) = omega (arith, leaves-some a)
-
 pub larger : {x y p : Tree} → Forks x y p → p ≈ y → ⊥
-larger {x} f e = absurd (omega (arith, ≈-leaves (forks-≈ f), ≈-leaves e, leaves-some x))
+larger {x} f e = absurd (omega (arith, ≈-leaves (forks-≈ f), ≈-leaves e, some-leaves x))
 
 -- the sibling and the aunt have no common label
 pub aunt-apart : {x y z parent t : Tree} → Forks x y parent → Forks parent z t → Distinct t → (l : ℕ) → In l y → In l z → ⊥

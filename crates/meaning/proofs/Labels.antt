@@ -3,7 +3,8 @@
 use mathlib.Core.Path.{_≡_, refl, sym, subst}
 use mathlib.Core.Logic.{_⊎_, inl, inr}
 use mathlib.Core.List.{List·Memᴰ, List·Memᴰ·head, List·Memᴰ·not-nil, Memᴰ·append-left, Memᴰ·append-right, List·Memᴰ·append-cases, List·Memᴰ·eq-of-singleton}
-use Prim.Native.Nat.{ℕ}
+use Prim.Native.Nat.{ℕ, _≤_}
+use native.Mathlib.Omega.{arith}
 use lib.ListN.{length, length-append}
 use Rattle.meaning.specs.Lists.{NoDup}
 use Rattle.meaning.specs.Tree.{Tree, leaf, fork, In, tip, Distinct, labels, leaves}
@@ -37,3 +38,8 @@ nodup-distinct (fork a b) d =
 pub labels-length : (t : Tree) → length (labels t) ≡ leaves t
 labels-length (leaf n) = refl
 labels-length (fork a b) = simp (length-append, labels-length a, labels-length b)
+
+-- a tree has a leaf
+pub some-leaves : (t : Tree) → 1 ≤ leaves t
+some-leaves (leaf l) = omega arith
+some-leaves (fork a b) = omega (arith, some-leaves a)

@@ -2,16 +2,15 @@
 -- Assumes nothing.
 use mathlib.Core.Path.{_≡_, refl, sym, ap, ap₂, subst, _∙_}
 use mathlib.Core.Logic.{_↔_, _⊎_, inl, inr}
-use mathlib.Core.Bool.{Bool, true, false, not, _||_, or-assoc, or-true}
+use mathlib.Core.Bool.{Bool, true, not, _||_, or-assoc, or-true}
 use mathlib.Core.List.{List, [], _∷_, _++_, map, List·Memᴰ, List·Memᴰ·head, List·Memᴰ·tail, List·Memᴰ·not-nil, Memᴰ·append-left, Memᴰ·append-right, List·Memᴰ·append-cases, Memᴰ·cast}
-use Prim.Native.Nat.{ℕ, zero, suc, _+_, _<_, _≤_}
+use Prim.Native.Nat.{ℕ, zero, suc, _+_, _<_}
 use native.Mathlib.Nat.{zero-add, suc-add}
-use native.Mathlib.Numerals.{add-one}
 use native.Mathlib.Omega.{arith}
-use borrow.Author.Tests.{eqb-true, eq-eqb, ne-eqb}
+use borrow.Author.Tests.{eqb-true, eq-eqb}
 use lib.Dec.{T, T-not, not-T, eqb, eqb→eq, eqb-refl}
-use lib.ListN.{length, drop, take, getD, drop-of-length-le}
-use lib.Seq.{drop-cons, getD-take, length-take-le, take-nil}
+use lib.ListN.{length, drop, take, getD}
+use lib.Seq.{take-nil}
 use Rattle.meaning.specs.Lists.{eqList, any, every, member, within, NoDup, noDup?}
 use Rattle.meaning.proofs.Logic.{clash, T-and, T-left, T-right, and-left, and-right, cases}
 
@@ -62,24 +61,6 @@ Among xs ys = T (every (λ n. any (eqb n) ys) xs)
 
 pub among : {n : ℕ} {xs ys : List ℕ} → Among xs ys → List·Memᴰ n xs → List·Memᴰ n ys
 among {ys} t m = one-of (every-mem (λ n. any (eqb n) ys) t m)
-
--- looking for a member among the first n: it is here, or further on, or they end
-module _ (v : ℕ) (xs : List ℕ) (n i : ℕ) (fits : n ≤ length xs) where
-  held-step : i < n → member v (drop i (take n xs)) ≡ (eqb (getD xs i 0) v || member v (drop (i + 1) (take n xs)))
-  unfolding member
-  held-step h = rw (add-one, drop-cons (take n xs) i 0 (rw (length-take-le n xs fits) h), getD-take n xs i 0 h)
-
-  pub held-here : i < n → getD xs i 0 ≡ v → member v (drop i (take n xs)) ≡ true
-  held-here h e = held-step h ∙ rw (eq-eqb (getD xs i 0) v e)
-
-  pub held-next : i < n → (getD xs i 0 ≡ v → ⊥) → member v (drop i (take n xs)) ≡ member v (drop (i + 1) (take n xs))
-  held-next h e = held-step h ∙ rw (ne-eqb (getD xs i 0) v e)
-
-  pub held-end : n ≤ i → member v (drop i (take n xs)) ≡ false
-  unfolding member
-  held-end h =
-      let l : length (take n xs) ≤ i = rw (length-take-le n xs fits) h in
-      rw (drop-of-length-le (take n xs) l)
 
 -- a member of a list put together is one of a part
 pub member-append : (v : ℕ) (xs ys : List ℕ) → member v (xs ++ ys) ≡ (member v xs || member v ys)

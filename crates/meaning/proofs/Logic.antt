@@ -1,6 +1,6 @@
 -- Laws of tests, and what follows where two of them clash.
 -- Assumes nothing.
-use mathlib.Core.Path.{_≡_, refl, subst}
+use mathlib.Core.Path.{_≡_, refl, sym, subst}
 use mathlib.Core.Logic.{_↔_}
 use mathlib.Core.Bool.{Bool, true, false, _&&_, _||_, and-eq-true-iff}
 use Prim.Native.Nat.{ℕ}
@@ -52,3 +52,9 @@ and-left a b h = and-eq-true-iff a b .0 h .0
 
 pub and-right : (a b : Bool) → (a && b) ≡ true → b ≡ true
 and-right a b h = and-eq-true-iff a b .0 h .1
+
+-- two tests that pass at the same time are the same
+pub both-tests : (a b : Bool) → (a ≡ true) ↔ (b ≡ true) → a ≡ b
+both-tests true b h = sym (h .0 refl)
+both-tests false true h = h .1 refl
+both-tests false false h = refl

@@ -4,12 +4,12 @@ use calls::GraphAnswer;
 use calls::PairAnswer;
 use calls::TableAnswer;
 use calls::TextAnswer;
-use graph::Copies;
+use links::Copies;
 use reading::Refusal;
 ghost use mathlib.Core.Path.{_≡_};
 ghost use Rattle.meaning.specs.Calls.{formCall, cutCall, PairCall, tableCall, InterchangeCall, ChoosingCall, GraphCall, IslandsCall};
 ghost use Rattle.meaning.specs.Sheet.{SheetCall};
-ghost use Rattle.graph.specs.Copies.{choiceOf};
+ghost use Rattle.links.specs.Copies.{choiceOf};
 ghost use Rattle.calls.specs.Paper.{textAnswer, pairAnswer, tableAnswer, graphAnswer};
 ghost use Rattle.norbelath.specs.Coded.{coded, textValue, pairValue, tableValue, graphValue, textCoded, tableCoded, graphCoded, choiceCoded, firstsCoded, islandsCoded, Numbered};
 

@@ -31,7 +31,7 @@ module _ {t u : Tree} (G : Good t) (H : Good u) where
   abbrev E : Distinct u
   E = H .distinct
 
-  share-move : SharesForest (canon t) (canon u) → OneMove t u
+  pub share-move : SharesForest (canon t) (canon u) → OneMove t u
   share-move s =
       canon-move D
       (record {
@@ -42,7 +42,7 @@ module _ {t u : Tree} (G : Good t) (H : Good u) where
         agree = (s .agree .rest, ap canon (s .agree .pruned));
       })
 
-  move-share : OneMove t u → SharesForest (canon t) (canon u)
+  pub move-share : OneMove t u → SharesForest (canon t) (canon u)
   move-share m =
       let k = move-canon D E m in
       let (c, lt, e) = numbered-cut (canon t) (k .is-cut) in

@@ -19,10 +19,10 @@ use Rattle.pairs.proofs.Children.{SecondAt}
 
 -- ---- fork by fork
 module _ (p k : ℕ) (a b : Tree) where
-  left-first : p ≡ k + 1 → left p k (fork a b) ≡ b
+  pub left-first : p ≡ k + 1 → left p k (fork a b) ≡ b
   left-first e = rw (eq-eqb p (k + 1) e)
 
-  left-second : p ≡ k + 1 + nodes a → left p k (fork a b) ≡ a
+  pub left-second : p ≡ k + 1 + nodes a → left p k (fork a b) ≡ a
   left-second e = rw (ne-eqb p (k + 1) (λ e′. omega (arith, some-nodes a)), eq-eqb p (k + 1 + nodes a) e)
 
   left-open : (p ≡ k + 1 → ⊥) → (p ≡ k + 1 + nodes a → ⊥) → left p k (fork a b) ≡ fork (left p (k + 1) a) (left p (k + 1 + nodes a) b)
@@ -37,10 +37,10 @@ left-out p k (fork a b) out =
 
 -- where it stands below a child, that child loses it
 module _ (p k : ℕ) (a b : Tree) where
-  left-in-first : k + 1 < p → p < k + 1 + nodes a → left p k (fork a b) ≡ fork (left p (k + 1) a) b
+  pub left-in-first : k + 1 < p → p < k + 1 + nodes a → left p k (fork a b) ≡ fork (left p (k + 1) a) b
   left-in-first f g = left-open p k a b (λ e. omega arith) (λ e. omega arith) ∙ ap (fork (left p (k + 1) a)) (left-out p (k + 1 + nodes a) b (λ u v. omega arith))
 
-  left-in-second : k + 1 + nodes a < p → left p k (fork a b) ≡ fork a (left p (k + 1 + nodes a) b)
+  pub left-in-second : k + 1 + nodes a < p → left p k (fork a b) ≡ fork a (left p (k + 1 + nodes a) b)
   left-in-second f =
       left-open p k a b (λ e. omega (arith, some-nodes a)) (λ e. omega arith) ∙ ap (λ (s : Tree). fork s (left p (k + 1 + nodes a) b)) (left-out p (k + 1) a (λ u v. omega arith))
 

@@ -13,7 +13,6 @@ ghost use Rattle.held.specs.Held.{Holds, Held, HasCut, nodes, cutIn};
 ghost use Rattle.held.specs.Kept.{Keeps, Kept};
 ghost use Rattle.pairs.specs.Ordered.{HeldFork};
 ghost use Rattle.pairs.specs.Pair.{OrderedCut, Marked, SameForest, SharesForest};
-ghost use Rattle.pairs.specs.Link.{Linked};
 
 // Whether the subtree of x at i is that of y at j. Most that differ do so at their first byte, which also tells the width.
 fn same_subtree(x: &[u8], i: usize, y: &[u8], j: usize) -> bool
@@ -55,7 +54,7 @@ fn same_remainder(x: &[u8], c: usize, y: &[u8], d: usize) -> bool
 }
 
 // Whether cut c of x and cut d of y have the same forest.
-fn same_forest(x: &[u8], c: usize, y: &[u8], d: usize) -> bool
+pub fn same_forest(x: &[u8], c: usize, y: &[u8], d: usize) -> bool
     requires { ⌜ OrderedCut (now x) c × OrderedCut (now y) d ⌝ }
     ensures { λ r. ⌜
         ((t u : Topology) → Holds (now (x .entry)) 0 t → Holds (now (y .entry)) 0 u
@@ -117,15 +116,4 @@ pub fn one_move_apart(a: Tree, b: Tree) -> bool
 pub enum Link {
     Move,
     Interchange,
-}
-
-// Whether a and b are linked so.
-pub fn linked(by: Link, a: Tree, b: Tree) -> bool
-    requires { ⌜ Kept a × Kept b ⌝ }
-    ensures { λ r. ⌜ ((t u : Topology) → Keeps a t → Keeps b u → Says r (Linked by t u)) ⌝ }
-{
-    match by {
-        Link::Move => one_move_apart(a, b),
-        Link::Interchange => one_interchange_apart(a, b),
-    }
 }

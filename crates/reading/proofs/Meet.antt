@@ -6,8 +6,8 @@ use mathlib.Core.List.{List}
 use Prim.Native.Nat.{ℕ, _+_, _≤_, _<_, min}
 use native.Mathlib.Omega.{arith}
 use lib.Dec.{eqb}
-use lib.ListN.{length, take, set}
-use lib.Seq.{sets, length-sets}
+use lib.ListN.{length, getD, set}
+use lib.Seq.{length-sets}
 use Rattle.meaning.specs.Lists.{member}
 use Rattle.meaning.specs.Tree.{Tree, leaf, In, tip, Good}
 use Rattle.meaning.specs.Reading.{Read, got, refused, andThen, orWrong, isBlank, skip, token, labelAt, value, runEnd, byteAt, badLabel}
@@ -17,26 +17,25 @@ use Rattle.meaning.proofs.Scan.{past-ge}
 use Rattle.meaning.proofs.Sound.{Silent}
 use Rattle.meaning.proofs.Ways.{reads, gives-got, token-gives, label-range, label-new}
 use Rattle.held.specs.Held.{nodes, pre}
-use Rattle.held.proofs.Labels.{member-labels}
-use Rattle.reading.specs.Draft.{tooLarge, seen, Draft, Meets, tokenAt}
+use Rattle.reading.specs.Draft.{tooLarge, seen, Tells, Draft, Written, Meets, tokenAt}
 use Rattle.reading.specs.Paper.{goesOn, stepAnswer}
 use Rattle.reading.specs.declared.Step.{Step}
-use Rattle.reading.proofs.Draft.{fits-more}
+use Rattle.reading.proofs.Draft.{fits-more, tells-more}
 use Rattle.reading.proofs.Steps.{Accepts, step-got, step-refused}
 
 -- ---- a node that was accepted, and a token
-abbrev pub Accepted : List ℕ → List ℕ → ℕ → Read Tree → ℕ → ℕ → Type 0
-Accepted node node′ at g p k = Accepts (λ t. at + nodes t) (λ t. node′ ≡ sets node at (pre t)) g p k
+abbrev pub Accepted : List ℕ → List ℕ → List Bool → ℕ → Read Tree → ℕ → ℕ → Type 0
+Accepted node node′ marks′ at g p k = Accepts (λ t. at + nodes t) (Written node node′ marks′ at) g p k
 
 abbrev pub Passed : ℕ → Read (Unit {0}) → ℕ → ℕ → Type 0
 Passed at g p k = Accepts (λ u. at) (λ u. Unit {0}) g p k
 
 -- ---- an accepted node, and a refused one
-module _ {g : Read Tree} {node node′ : List ℕ} {at : ℕ} {r : Step} where
-  pub meets-got : {t : Tree} {p : ℕ} → g ≡ got t p → stepAnswer r ≡ goesOn p (at + nodes t) → node′ ≡ sets node at (pre t) → Meets node node′ at g r
-  meets-got {t} e h k = record { step = step-got e h k; same = ap length k ∙ length-sets node at (pre t) }
+module _ {g : Read Tree} {node node′ : List ℕ} {marks′ : List Bool} {at : ℕ} {r : Step} where
+  pub meets-got : {t : Tree} {p : ℕ} → g ≡ got t p → stepAnswer r ≡ goesOn p (at + nodes t) → Written node node′ marks′ at t → Meets node node′ marks′ at g r
+  meets-got {t} e h k = record { step = step-got e h k; same = ap length (k .cells) ∙ length-sets node at (pre t) }
 
-  pub meets-refused : {n p : ℕ} → g ≡ refused n p → stepAnswer r ≡ refusal n 0 p → length node′ ≡ length node → Meets node node′ at g r
+  pub meets-refused : {n p : ℕ} → g ≡ refused n p → stepAnswer r ≡ refusal n 0 p → length node′ ≡ length node → Meets node node′ marks′ at g r
   meets-refused e h k = record { step = step-refused e h; same = k }
 
 -- ---- a token
@@ -55,18 +54,19 @@ module _ (b : ℕ) (s : List ℕ) (p : ℕ) where
       let l : p < skip s p + 1 = omega (arith, past-ge isBlank s p) in
       gives-got (token-gives {P = λ u q. p < q} {Q = Silent} b s p (λ q. got tt q) (λ _. tt) (λ h. reads l)) e
 
--- ---- a label that the rule allows, once it was looked for
+-- ---- a label that the rule allows, once its mark was read
 pub record Checked (s : List ℕ) (q : ℕ) (node : List ℕ) (at v : ℕ) (found : Bool) : Type 0 where
   pub allowed : badLabel (value s q) ≡ false
   pub same : v ≡ value s q
+  pub small : v ≤ 64
   pub held : member (value s q) (seen node at) ≡ found
 
-pub checked : (s : List ℕ) (q : ℕ) (node : List ℕ) (at v : ℕ) (found : Bool)
-    → badLabel (value s q) ≡ false → v ≡ min tooLarge (value s q) → found ≡ member v (take at node) → Checked s q node at v found
-checked s q node at v found f e m =
+pub checked : (s : List ℕ) (q : ℕ) (node : List ℕ) (marks : List Bool) (at v : ℕ)
+    → badLabel (value s q) ≡ false → v ≡ min tooLarge (value s q) → Tells marks (seen node at) → Checked s q node at v (getD marks v false)
+checked s q node marks at v f e m =
     let (l, h) = label-range _ f in
     let z : v ≡ value s q = omega arith in
-    record { allowed = f; same = z; held = rw (← z) (sym (m ∙ member-labels v (take at node) (omega arith) (omega arith))) }
+    record { allowed = f; same = z; small = omega arith; held = rw (← z) (sym (m .each v (omega arith))) }
 
 module _ {s : List ℕ} {q : ℕ} {node : List ℕ} {at v : ℕ} (k : Checked s q node at v false) where
   leaf-good : Good (leaf (value s q))
@@ -78,8 +78,12 @@ module _ {s : List ℕ} {q : ℕ} {node : List ℕ} {at v : ℕ} (k : Checked s 
   leaf-new : New (leaf (value s q)) (seen node at)
   leaf-new l tip = k .held
 
-  pub label-room : {room : ℕ} → Draft node at room → at + 1 ≤ length node
-  label-room d = fits-more d leaf-good leaf-new
+  module _ {marks : List Bool} {room : ℕ} (d : Draft node marks at room) where
+    pub label-room : at + 1 ≤ length node
+    label-room = fits-more d leaf-good leaf-new
 
-  pub label-got : {r : Step} → stepAnswer r ≡ goesOn (runEnd s q) (at + 1) → Meets node (set node at v) at (labelAt s q (seen node at)) r
-  label-got e = meets-got (label-new s q (seen node at) (k .allowed) (k .held)) e (ap (set node at) (k .same))
+    pub label-got : {r : Step} → stepAnswer r ≡ goesOn (runEnd s q) (at + 1) → Meets node (set node at v) (set marks v true) at (labelAt s q (seen node at)) r
+    label-got e = meets-got (label-new s q (seen node at) (k .allowed) (k .held)) e (record {
+      cells = ap (set node at) (k .same);
+      marked = rw (← k .same) (tells-more (d .marked) v (k .small));
+    })

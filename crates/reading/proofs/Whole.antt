@@ -1,26 +1,26 @@
 -- The ways through a whole tree: a node and `;`, and a text with exactly one tree.
 -- Assumes nothing.
 use mathlib.Core.Path.{_≡_, ap, _∙_}
-use mathlib.Core.Bool.{cond}
+use mathlib.Core.Bool.{Bool, false, cond}
 use mathlib.Core.List.{List}
 use Prim.Native.Nat.{ℕ, _≤_, _<_}
 use native.Mathlib.Nat.{zero-add}
 use native.Mathlib.Omega.{arith}
 use borrow.Author.Tests.{lt-ltb, le-ltb}
 use lib.Dec.{ltb}
-use lib.ListN.{length, drop, replicate, length-replicate}
+use lib.ListN.{length, drop, replicate, length-replicate, getD-replicate}
+use Rattle.meaning.specs.Lists.{member}
 use Rattle.meaning.specs.Tree.{Tree, Good, canon}
 use Rattle.meaning.specs.Reading.{Read, got, refused, skip, token, readNode, treeAt, readTree}
 use Rattle.meaning.specs.Answer.{refusal}
-use Rattle.meaning.proofs.Length.{leaves-64}
 use Rattle.meaning.proofs.Sound.{sound}
 use Rattle.meaning.proofs.Ways.{gives-got}
 use Rattle.lent.proofs.Runs.{sets-start}
 use Rattle.held.specs.Held.{nodes, pre, Holds, Room, hold}
 use Rattle.held.specs.Kept.{Keeps}
 use Rattle.held.specs.Labels.{labelsIn}
-use Rattle.held.proofs.Laws.{length-pre, twice}
-use Rattle.reading.specs.Draft.{draftBytes, seen, Draft, Meets, tokenAt, TokenMeets}
+use Rattle.held.proofs.Laws.{length-pre, few-nodes}
+use Rattle.reading.specs.Draft.{tooLarge, draftBytes, seen, Draft, Meets, tokenAt, TokenMeets}
 use Rattle.reading.specs.Paper.{goesOn, stepAnswer, StepMeets}
 use Rattle.reading.specs.Whole.{TreeMeets}
 use Rattle.reading.specs.declared.Step.{Step}
@@ -34,12 +34,17 @@ use Rattle.reading.proofs.Steps.{then-got, Accepts, step-got, step-refu
 abbrev pub blank-draft : List ℕ
 blank-draft = replicate draftBytes 0
 
-pub draft-blank : Draft blank-draft 0 63
-unfolding labelsIn
-draft-blank = record { size = length-replicate {A = ℕ} draftBytes 0; once = tt; fits = omega arith }
+pub draft-blank : Draft blank-draft (replicate tooLarge false) 0 63
+unfolding labelsIn member
+draft-blank = record {
+  size = length-replicate {A = ℕ} draftBytes 0;
+  once = tt;
+  fits = omega arith;
+  marked = record { size = length-replicate {A = Bool} tooLarge false; each = λ l h. getD-replicate tooLarge l false false (omega arith) };
+}
 
 -- ---- a node and `;`
-module _ (s : List ℕ) (p : ℕ) {node : List ℕ} {r : Step} (m : Meets blank-draft node 0 (readNode 63 s p (seen blank-draft 0)) r) where
+module _ (s : List ℕ) (p : ℕ) {node : List ℕ} {marks : List Bool} {r : Step} (m : Meets blank-draft node marks 0 (readNode 63 s p (seen blank-draft 0)) r) where
   abbrev ends : Tree → ℕ → Read Tree
   ends t q = token 59 s q (λ q′. got t q′)
 
@@ -48,14 +53,11 @@ module _ (s : List ℕ) (p : ℕ) {node : List ℕ} {r : Step} (m : Meets blank-
   at-refused e = step-ends ends (m .step) e
 
   module _ {q k : ℕ} (e : r ≡ Next q k) where
-    read : Accepted blank-draft node 0 (readNode 63 s p (seen blank-draft 0)) q k
+    read : Accepted blank-draft node marks 0 (readNode 63 s p (seen blank-draft 0)) q k
     read = step-next (m .step) e
 
     good : Good (read .value)
     good = gives-got (sound 63 s p (seen blank-draft 0)) (read .is) .good
-
-    small-enough : nodes (read .value) ≤ 127
-    small-enough = omega (arith, leaves-64 good, twice (read .value))
 
     -- the draft holds the tree
     read-stands : Holds node 0 (read .value)
@@ -63,12 +65,12 @@ module _ (s : List ℕ) (p : ℕ) {node : List ℕ} {r : Step} (m : Meets blank-
       small = good .small;
       stands = (
         drop (length (pre (read .value))) blank-draft,
-        read .keeps ∙ sets-start blank-draft (pre (read .value)) (omega (arith, length-pre (read .value), small-enough, length-replicate {A = ℕ} draftBytes 0)),
+        read .keeps .cells ∙ sets-start blank-draft (pre (read .value)) (omega (arith, length-pre (read .value), few-nodes good, length-replicate {A = ℕ} draftBytes 0)),
       );
     }
 
     pub read-holds : Room nodes node 0 127
-    read-holds = record { tree = read .value; holds = read-stands; room = small-enough }
+    read-holds = record { tree = read .value; holds = read-stands; room = few-nodes good }
 
     pub at-end : {w : TreeRead} → TokenMeets k (tokenAt 59 s q) (w .step) → ((t : Tree) → Holds node 0 t → w .tree .node ≡ hold (canon t)) → TreeMeets w (treeAt s p)
     unfolding treeAt labelsIn

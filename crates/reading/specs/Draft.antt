@@ -1,13 +1,14 @@
--- A tree while it is read: its nodes in preorder in lent bytes; and what reading a node and a token answers.
+-- A tree while it is read: its nodes in preorder in lent bytes, and marks of its labels; and what reading a node and a token answers.
 -- Assumes nothing.
 use mathlib.Core.Path.{_≡_}
-use mathlib.Core.List.{List}
+use mathlib.Core.Bool.{Bool, false}
+use mathlib.Core.List.{List, _++_}
 use Prim.Native.Nat.{ℕ, _+_, _-_, _*_, _≤_}
 use lib.Seq.{sets}
-use lib.ListN.{length, take}
+use lib.ListN.{length, take, getD}
 use Rattle.meaning.specs.Limits.{maxLabel, maxNodes, maxOpen}
-use Rattle.meaning.specs.Lists.{NoDup}
-use Rattle.meaning.specs.Tree.{Tree}
+use Rattle.meaning.specs.Lists.{member, NoDup}
+use Rattle.meaning.specs.Tree.{Tree, labels}
 use Rattle.meaning.specs.Reading.{Read, got, token}
 use Rattle.held.specs.Held.{nodes, pre}
 use Rattle.held.specs.Labels.{labelsIn}
@@ -26,16 +27,27 @@ tooLarge = maxLabel + 1
 abbrev pub draftBytes : ℕ
 draftBytes = maxNodes + maxOpen
 
+-- of each label its mark tells whether it is one of ls
+pub record Tells (marks : List Bool) (ls : List ℕ) : Type 0 where
+  pub size : length marks ≡ tooLarge
+  pub each : (l : ℕ) → l ≤ maxLabel → getD marks l false ≡ member l ls
+
 -- a draft that a node can be read into at `at`, while `room` more brackets may open: none of its labels occurs
--- twice, and each of its nodes is a label, a closed fork, fewer than the labels, or an open fork
-pub record Draft (node : List ℕ) (at room : ℕ) : Type 0 where
+-- twice, the marks tell them, and each of its nodes is a label, a closed fork, fewer than the labels, or an open fork
+pub record Draft (node : List ℕ) (marks : List Bool) (at room : ℕ) : Type 0 where
   pub size : length node ≡ draftBytes
   pub once : NoDup (seen node at)
   pub fits : at + room ≤ 2 * length (seen node at) - 1 + maxOpen
+  pub marked : Tells marks (seen node at)
+
+-- the node t is written over the draft from `at` on, and the marks tell its labels too
+pub record Written (node node′ : List ℕ) (marks′ : List Bool) (at : ℕ) (t : Tree) : Type 0 where
+  pub cells : node′ ≡ sets node at (pre t)
+  pub marked : Tells marks′ (seen node at ++ labels t)
 
 -- an accepted node is written over the draft, and reading goes on behind it; a refusal is the answer; the draft keeps its size
-pub record Meets (node node′ : List ℕ) (at : ℕ) (g : Read Tree) (r : Step) : Type 0 where
-  pub step : StepMeets (λ t. at + nodes t) (λ t. node′ ≡ sets node at (pre t)) r g
+pub record Meets (node node′ : List ℕ) (marks′ : List Bool) (at : ℕ) (g : Read Tree) (r : Step) : Type 0 where
+  pub step : StepMeets (λ t. at + nodes t) (Written node node′ marks′ at) r g
   pub same : length node′ ≡ length node
 
 -- the token b alone, behind blanks

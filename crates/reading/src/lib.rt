@@ -69,6 +69,9 @@ impl Run {
     const TOO_LARGE: usize = Tree::MAX_LABEL as usize + 1;
 }
 
+// Which labels were read: each value below `TOO_LARGE` has its mark.
+type Marks = [bool; Run::TOO_LARGE];
+
 // The byte at a place; 0 behind the end.
 fn byte_at(s: &[u8], at: usize) -> u8
     ensures { λ r. ⌜ r ≡ getD (now (s .entry)) at 0 ⌝ }
@@ -155,19 +158,22 @@ fn bad_label(v: usize) -> bool
 }
 
 // The label whose first digit is at q, as the node `at`.
-fn read_label(s: &[u8], q: usize, node: &mut [u8], at: usize) -> Step
-    requires { ⌜ Draft (now node) at 0 ⌝ }
-    ensures { λ r. ⌜ Meets (now (node .entry)) (now (node .exit)) at (labelAt (now (s .entry)) q (seen (now (node .entry)) at)) r ⌝ }
+fn read_label(s: &[u8], q: usize, node: &mut [u8], at: usize, marks: &mut Marks) -> Step
+    requires { ⌜ Draft (now node) (now marks) at 0 ⌝ }
+    ensures { λ r. ⌜
+        Meets (now (node .entry)) (now (node .exit)) (now (marks .exit)) at
+        (labelAt (now (s .entry)) q (seen (now (node .entry)) at)) r ⌝ }
 {
     let run = digit_run(s, q);
     let v = run.value;
     if bad_label(v) {
         return refuse(Refusal::BAD_LABEL, q);
     }
-    if lent::contains(node, at, v) {
+    if marks[v] {
         return refuse(Refusal::LABEL_AGAIN, q);
     }
     node[at] = v as u8;
+    marks[v] = true;
     Step::Next(run.end, at + 1)
 }
 
@@ -194,33 +200,49 @@ fn fork_byte(at: usize, end: usize) -> u8
 }
 
 // The node at `from`, as the node `at`, where `room` more brackets may open.
-fn read_node(s: &[u8], from: usize, room: usize, node: &mut [u8], at: usize) -> Step
-    requires { ⌜ Draft (now node) at room ⌝ }
-    ensures { λ r. ⌜ Meets (now (node .entry)) (now (node .exit)) at (readNode room (now (s .entry)) from (seen (now (node .entry)) at)) r ⌝ }
+fn read_node(
+    s: &[u8],
+    from: usize,
+    room: usize,
+    node: &mut [u8],
+    at: usize,
+    marks: &mut Marks,
+) -> Step
+    requires { ⌜ Draft (now node) (now marks) at room ⌝ }
+    ensures { λ r. ⌜
+        Meets (now (node .entry)) (now (node .exit)) (now (marks .exit)) at
+        (readNode room (now (s .entry)) from (seen (now (node .entry)) at)) r ⌝ }
 {
     let q = skip_blanks(s, from);
     let b = byte_at(s, q);
     if is_digit(b) {
-        return read_label(s, q, node, at);
+        return read_label(s, q, node, at, marks);
     }
     if b == b'(' {
         if room == 0 {
             return refuse(Refusal::TOO_DEEP, q);
         }
-        return read_fork(s, q + 1, room - 1, node, at);
+        return read_fork(s, q + 1, room - 1, node, at, marks);
     }
     refuse(Refusal::WRONG_BYTE, q)
 }
 
 // The rest of a fork, behind its bracket, as the node `at`. Its byte is 0, which is no label, until its leaves are known.
-fn read_fork(s: &[u8], from: usize, room: usize, node: &mut [u8], at: usize) -> Step
-    requires { ⌜ Draft (now node) at (suc room) ⌝ }
+fn read_fork(
+    s: &[u8],
+    from: usize,
+    room: usize,
+    node: &mut [u8],
+    at: usize,
+    marks: &mut Marks,
+) -> Step
+    requires { ⌜ Draft (now node) (now marks) at (suc room) ⌝ }
     ensures { λ r. ⌜
-        Meets (now (node .entry)) (now (node .exit)) at
+        Meets (now (node .entry)) (now (node .exit)) (now (marks .exit)) at
         (forkAt (readNode room (now (s .entry))) (now (s .entry)) from (seen (now (node .entry)) at)) r ⌝ }
 {
     node[at] = 0;
-    let first = read_node(s, from, room, node, at + 1);
+    let first = read_node(s, from, room, node, at + 1, marks);
     let Step::Next(p, half) = first else {
         return first;
     };
@@ -228,7 +250,7 @@ fn read_fork(s: &[u8], from: usize, room: usize, node: &mut [u8], at: usize) -> 
     let Step::Next(q, next) = comma else {
         return comma;
     };
-    let second = read_node(s, q, room, node, next);
+    let second = read_node(s, q, room, node, next, marks);
     let Step::Next(p2, end) = second else {
         return second;
     };
@@ -241,7 +263,8 @@ pub fn read_at(s: &[u8], from: usize) -> TreeRead
     ensures { λ r. ⌜ TreeMeets r (treeAt (now (s .entry)) from) ⌝ }
 {
     let mut node = [0u8; Tree::MAX_DRAFT];
-    let step = read_node(s, from, Tree::MAX_OPEN, &mut node, 0);
+    let mut marks: Marks = [false; Run::TOO_LARGE];
+    let step = read_node(s, from, Tree::MAX_OPEN, &mut node, 0, &mut marks);
     let Step::Next(p, nodes) = step else {
         return TreeRead {
             step,

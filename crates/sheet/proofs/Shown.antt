@@ -18,7 +18,7 @@ use Rattle.held.specs.Kept.{KeepsAll}
 use Rattle.held.specs.declared.Table.{Table}
 use Rattle.pairs.specs.declared.Link.the-variants.{Move}
 use Rattle.graph.specs.Copies.{GraphRoom, GraphWritten}
-use Rattle.graph.specs.declared.copies.Copies.the-variants.{KeptApart}
+use Rattle.links.specs.declared.Copies.the-variants.{KeptApart}
 use Rattle.graph.specs.Listed.{PairsListed}
 use Rattle.graph.proofs.Listed.{graph-pairs}
 use Rattle.sheet.specs.Lines.{TreesListed, SheetFits}

@@ -2,11 +2,11 @@
 // place behind what it wrote.
 pub mod islands;
 
-use graph::Copies;
 use held::Table;
 use held::Tree;
 pub use islands::IslandSheet;
 pub use islands::print_islands;
+use links::Copies;
 use pairs::Link;
 use reading::Refusal;
 use reading::Step;

@@ -9,9 +9,9 @@ use Rattle.meaning.specs.Limits.{maxNodes}
 use Rattle.meaning.specs.Tree.{Tree}
 use Rattle.meaning.specs.Clade.{clade}
 use Rattle.held.specs.Held.{nodes, Holds}
-use Rattle.held.proofs.Laws.{within, some-nodes}
+use Rattle.held.proofs.Laws.{within, some-nodes, few-nodes}
 use Rattle.clades.specs.Marks.{Marks}
-use Rattle.clades.proofs.Laws.{Sub, node-in, few-nodes, marks-more, bit-is, label-range, fork-of, behind, sum-is, sum-fits}
+use Rattle.clades.proofs.Laws.{Sub, node-in, marks-more, bit-is, label-range, fork-of, behind, sum-is, sum-fits}
 use Rattle.clades.proofs.note.Statement.{statement}
 use Rattle.clades.proofs.note.Tie as tie
 

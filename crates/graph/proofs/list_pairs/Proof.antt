@@ -1,11 +1,8 @@
 -- `graph::list_pairs` meets its contract.
 -- Assumes nothing.
-use Prim.Native.Nat.{ℕ}
 use borrow.Author.Needs.{needs}
-use lib.ListN.{length-replicate}
-use Rattle.graph.specs.Graph.{linkBytes}
 use Rattle.graph.proofs.Turns.{graph-iff}
-use Rattle.graph.proofs.Linked.{firsts-room}
+use Rattle.graph.proofs.Firsts.{firsts-room}
 use Rattle.graph.proofs.list_pairs.Statement.{statement}
 use Rattle.graph.proofs.list_pairs.Tie as tie
 
@@ -15,7 +12,7 @@ note-firsts-requires c κs = search needs
 link-positions-requires : tie.Need-link-positions-requires
 link-positions-requires c κs =
     let n = c .before .before .before .before in
-    firsts-room (n .before .before .before .before .before .pre) (n .note-firsts .ensures) (length-replicate {A = ℕ} linkBytes 0)
+    firsts-room (n .before .before .before .before .before .pre) (n .note-firsts .ensures)
 
 list-links-requires : tie.Need-list-links-requires
 list-links-requires c κs = search needs

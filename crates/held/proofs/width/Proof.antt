@@ -2,7 +2,8 @@
 -- Assumes nothing.
 use borrow.Author.Needs.{needs}
 use native.Mathlib.Omega.{arith}
-use Rattle.held.proofs.Laws.{some-leaves, twice}
+use Rattle.meaning.proofs.Labels.{some-leaves}
+use Rattle.held.proofs.Laws.{twice}
 use Rattle.held.proofs.width.Statement.{statement}
 use Rattle.held.proofs.width.Tie as tie
 

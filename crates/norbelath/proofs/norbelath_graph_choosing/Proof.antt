@@ -5,7 +5,7 @@ use Rattle.norbelath.proofs.Numbered.{graph-numbered}
 use Rattle.norbelath.proofs.Replies.{handed-back}
 use borrow.Author.Needs.{needs}
 use Rattle.meaning.specs.Answer.{FirstsMemory}
-use Rattle.graph.specs.Copies.{choiceOf}
+use Rattle.links.specs.Copies.{choiceOf}
 use Rattle.norbelath.proofs.norbelath_graph_choosing.Statement.{statement}
 use Rattle.norbelath.proofs.norbelath_graph_choosing.Tie as tie
 

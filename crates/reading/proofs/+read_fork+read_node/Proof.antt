@@ -44,25 +44,25 @@ bracket-takes room s p q e f g l = omega (arith, past-ge isBlank s p)
 node-takes : (room : ℕ) (s : List ℕ) (p q : ℕ) {t : ℕ} → left room s p + 1 ≡ t → p ≤ q → left room s q < t
 node-takes room s p q e h = omega arith
 
-abbrev μ-read-fork : Measures 2 read-fork-kinds.ps ℕ
+abbrev μ-read-fork : Measures 3 read-fork-kinds.ps ℕ
 μ-read-fork κs a = left (a .1 .1 .0) (a .0 .now) (a .1 .0) + 1
 
-abbrev μ-read-node : Measures 2 read-node-kinds.ps ℕ
+abbrev μ-read-node : Measures 3 read-node-kinds.ps ℕ
 μ-read-node κs a = left (a .1 .1 .0) (a .0 .now) (a .1 .0)
 
-abbrev read-fork-at : ℕ → In 2 read-fork-kinds.ps
-read-fork-at t = and 2 read-fork-kinds.ps (is 2 read-fork-kinds.ps μ-read-fork t) read-fork.Pre
+abbrev read-fork-at : ℕ → In 3 read-fork-kinds.ps
+read-fork-at t = and 3 read-fork-kinds.ps (is 3 read-fork-kinds.ps μ-read-fork t) read-fork.Pre
 
-abbrev read-fork-below : ℕ → In 2 read-fork-kinds.ps
+abbrev read-fork-below : ℕ → In 3 read-fork-kinds.ps
 read-fork-below t =
-    and 2 read-fork-kinds.ps (falls 2 read-fork-kinds.ps _<_ μ-read-fork t) read-fork.Pre
+    and 3 read-fork-kinds.ps (falls 3 read-fork-kinds.ps _<_ μ-read-fork t) read-fork.Pre
 
-abbrev read-node-at : ℕ → In 2 read-node-kinds.ps
-read-node-at t = and 2 read-node-kinds.ps (is 2 read-node-kinds.ps μ-read-node t) read-node.Pre
+abbrev read-node-at : ℕ → In 3 read-node-kinds.ps
+read-node-at t = and 3 read-node-kinds.ps (is 3 read-node-kinds.ps μ-read-node t) read-node.Pre
 
-abbrev read-node-below : ℕ → In 2 read-node-kinds.ps
+abbrev read-node-below : ℕ → In 3 read-node-kinds.ps
 read-node-below t =
-    and 2 read-node-kinds.ps (falls 2 read-node-kinds.ps _<_ μ-read-node t) read-node.Pre
+    and 3 read-node-kinds.ps (falls 3 read-node-kinds.ps _<_ μ-read-node t) read-node.Pre
 
 abbrev fork-claims : ℕ → read-fork-lts.Claims
 fork-claims t = (read-node-below t, read-node.Post, expect-byte-reads.Asked, expect-byte-reads.Learnt, fork-byte-reads.Asked, fork-byte-reads.Learnt)
@@ -85,9 +85,13 @@ node-claims t = (
 
 -- the entry, from where the first node was read, and what that says
 abbrev start : (t : ℕ) (c : read-fork-lts.After-read-node (fork-claims t) (read-fork-at t) read-fork.Post) → read-fork-lts.Start (fork-claims t) (read-fork-at t) read-fork.Post
-start t c = c .before .before .before .before
+start t c = c .before .before .before .before .before
 
-first-met : (t : ℕ) (c : read-fork-lts.After-read-node (fork-claims t) (read-fork-at t) read-fork.Post) → Meets (set (start t c .args .node .now) (start t c .args .at) 0) (c .read-node .last .1 .1 .1 .0) (start t c .args .at + 1) (readNode (start t c .args .room) (start t c .args .s .now) (start t c .args .from) (seen (set (start t c .args .node .now) (start t c .args .at) 0) (start t c .args .at + 1))) (c .read-node .result)
+first-met : (t : ℕ) (c : read-fork-lts.After-read-node (fork-claims t) (read-fork-at t) read-fork.Post)
+    → let a = start t c .args in
+    let node = set (a .node .now) (a .at) 0 in
+    Meets node (c .read-node .last .1 .1 .1 .0) (c .read-node .last .1 .1 .1 .1 .1 .0) (a .at + 1)
+    (readNode (a .room) (a .s .now) (a .from) (seen node (a .at + 1))) (c .read-node .result)
 first-met t c = c .read-node .ensures
 
 -- and what the comma and the second node say
@@ -95,14 +99,21 @@ abbrev first-of : (t : ℕ) (c : read-fork-lts.After-comma (fork-claims t) (read
 first-of t c = c .before .before .before .before .before .before .before .before
 
 comma-is : (t : ℕ) (c : read-fork-lts.After-comma (fork-claims t) (read-fork-at t) read-fork.Post)
-    → Passed (c .before .before .before .before .first .given .0 .1 .0) (tokenAt 44 (start t (first-of t c) .args .s .now) (c .before .before .before .before .first .given .0 .0)) (c .comma .given .0 .0) (c .comma .given .0 .1 .0)
+    → let first = c .before .before .before .before .first .given .0 in
+    Passed (first .1 .0) (tokenAt 44 (start t (first-of t c) .args .s .now) (first .0)) (c .comma .given .0 .0) (c .comma .given .0 .1 .0)
 comma-is t c = step-next (c .before .before .expect-byte .ensures) (c .comma .given .1)
 
-second-met : (t : ℕ) (c : read-fork-lts.After-read-node2 (fork-claims t) (read-fork-at t) read-fork.Post) → Meets (first-of t (c .before .before .before) .read-node .last .1 .1 .1 .0) (c .read-node2 .last .1 .1 .1 .0) (c .before .before .before .comma .given .0 .1 .0) (readNode (start t (first-of t (c .before .before .before)) .args .room) (start t (first-of t (c .before .before .before)) .args .s .now) (c .before .before .before .comma .given .0 .0) (seen (first-of t (c .before .before .before) .read-node .last .1 .1 .1 .0) (c .before .before .before .comma .given .0 .1 .0))) (c .read-node2 .result)
+second-met : (t : ℕ) (c : read-fork-lts.After-read-node2 (fork-claims t) (read-fork-at t) read-fork.Post)
+    → let k = c .before .before .before .before in
+    let a = start t (first-of t k) .args in
+    let node = first-of t k .read-node .last .1 .1 .1 .0 in
+    Meets node (c .read-node2 .last .1 .1 .1 .0) (c .read-node2 .last .1 .1 .1 .1 .1 .0) (k .comma .given .0 .1 .0)
+    (readNode (a .room) (a .s .now) (k .comma .given .0 .0) (seen node (k .comma .given .0 .1 .0))) (c .read-node2 .result)
 second-met t c = c .read-node2 .ensures
 
-second-length : (t : ℕ) (c : read-fork-lts.After-read-node2 (fork-claims t) (read-fork-at t) read-fork.Post) → length (c .read-node2 .last .1 .1 .1 .0) ≡ length (start t (first-of t (c .before .before .before)) .args .node .now)
-second-length t c = second-met t c .same ∙ first-met t (first-of t (c .before .before .before)) .same ∙ simp length-set
+second-length : (t : ℕ) (c : read-fork-lts.After-read-node2 (fork-claims t) (read-fork-at t) read-fork.Post)
+    → length (c .read-node2 .last .1 .1 .1 .0) ≡ length (start t (first-of t (c .before .before .before .before)) .args .node .now)
+second-length t c = second-met t c .same ∙ first-met t (first-of t (c .before .before .before .before)) .same ∙ simp length-set
 
 read-fork-slice-write-node : (t : ℕ) → read-fork-lts.Need-slice-write-node (fork-claims t) (read-fork-at t) read-fork.Post
 read-fork-slice-write-node t c = open-room (c .before .before .pre .1)
@@ -111,7 +122,7 @@ read-fork-add-read-node : (t : ℕ) → read-fork-lts.Need-add-read-node (fork-c
 read-fork-add-read-node t c = omega (arith, open-room (c .before .before .before .pre .1), c .before .before .before .pre .1 .size)
 
 read-fork-read-node-requires : (t : ℕ) → read-fork-lts.Need-read-node-requires (fork-claims t) (read-fork-at t) read-fork.Post
-read-fork-read-node-requires t c κs = (omega (arith, c .before .before .before .pre .0), draft-open (c .before .before .before .pre .1))
+read-fork-read-node-requires t c κs = (omega (arith, c .before .before .before .before .pre .0), draft-open (c .before .before .before .before .pre .1))
 
 read-fork-enum-known-first : (t : ℕ) → read-fork-lts.Need-enum-known-first (fork-claims t) (read-fork-at t) read-fork.Post
 read-fork-enum-known-first t c = search needs
@@ -144,11 +155,12 @@ read-fork-returns-2 : (t : ℕ) → read-fork-lts.Need-returns-2 (fork-claims t)
 read-fork-returns-2 t c =
     let d = c .before .before .before .before .before .before .before .before in
     let a = start t d .args in
-    fork-no-comma (a .s .now) (a .from) (a .room) (start t d .pre .1) (first-met t d) (c .before .before .before .before .first .given .1) (c .before .before .expect-byte .ensures) (c .enum-told2 .given .1)
+    fork-no-comma (a .s .now) (a .from) (a .room) (start t d .pre .1) (first-met t d)
+    (c .before .before .before .before .first .given .1) (c .before .before .expect-byte .ensures) (c .enum-told2 .given .1)
 
 read-fork-read-node-requires-2 : (t : ℕ) → read-fork-lts.Need-read-node-requires-2 (fork-claims t) (read-fork-at t) read-fork.Post
 read-fork-read-node-requires-2 t c κs =
-    let k = c .before .before in
+    let k = c .before .before .before in
     let d = first-of t k in
     let a = start t d .args in
     let e = k .before .before .before .before .first .given .1 in (
@@ -168,7 +180,7 @@ read-fork-same-length-3 t c = second-length t (c .before .before .before .before
 read-fork-returns-3 : (t : ℕ) → read-fork-lts.Need-returns-3 (fork-claims t) (read-fork-at t) read-fork.Post
 read-fork-returns-3 t c =
     let e = c .before .before .before .before in
-    let k = e .before .before .before in
+    let k = e .before .before .before .before in
     let d = first-of t k in
     let a = start t d .args in
     fork-no-second (a .s .now) (a .from) (a .room) (start t d .pre .1) (first-met t d) (k .before .before .before .before .first .given .1) (comma-is t k) (second-met t e) (c .enum-told3 .given .1)
@@ -176,7 +188,7 @@ read-fork-returns-3 t c =
 read-fork-fork-byte-requires : (t : ℕ) → read-fork-lts.Need-fork-byte-requires (fork-claims t) (read-fork-at t) read-fork.Post
 read-fork-fork-byte-requires t c κs =
     let e = c .before .before .before .before .before in
-    let k = e .before .before .before in
+    let k = e .before .before .before .before in
     let d = first-of t k in
     let a = start t d .args in
     close-room (a .s .now) (a .from) (a .room) (start t d .pre .1) (first-met t d) (k .before .before .before .before .first .given .1) (comma-is t k) (second-met t e) (c .before .second .given .1)
@@ -184,7 +196,7 @@ read-fork-fork-byte-requires t c κs =
 read-fork-slice-write-node-2 : (t : ℕ) → read-fork-lts.Need-slice-write-node-2 (fork-claims t) (read-fork-at t) read-fork.Post
 read-fork-slice-write-node-2 t c =
     let e = c .before .before .before .before .before .before in
-    let d = first-of t (e .before .before .before) in
+    let d = first-of t (e .before .before .before .before) in
     omega (arith, second-length t e, open-room (start t d .pre .1))
 
 read-fork-expect-byte-requires-2 : (t : ℕ) → read-fork-lts.Need-expect-byte-requires-2 (fork-claims t) (read-fork-at t) read-fork.Post
@@ -196,10 +208,11 @@ read-fork-same-length-4 t c = simp length-set (second-length t (c .before .befor
 read-fork-returns-4 : (t : ℕ) → read-fork-lts.Need-returns-4 (fork-claims t) (read-fork-at t) read-fork.Post
 read-fork-returns-4 t c =
     let e = c .before .before .before .before .before .before .before in
-    let k = e .before .before .before in
+    let k = e .before .before .before .before in
     let d = first-of t k in
     let a = start t d .args in
-    fork-closed (a .s .now) (a .from) (a .room) (start t d .pre .1) (first-met t d) (k .before .before .before .before .first .given .1) (comma-is t k) (second-met t e) (c .before .before .before .second .given .1) _ (c .before .fork-byte .ensures) (c .expect-byte2 .ensures)
+    fork-closed (a .s .now) (a .from) (a .room) (start t d .pre .1) (first-met t d)
+    (k .before .before .before .before .first .given .1) (comma-is t k) (second-met t e) (c .before .before .before .second .given .1) _ (c .before .fork-byte .ensures) (c .expect-byte2 .ensures)
 
 read-node-skip-blanks-requires : (t : ℕ) → read-node-lts.Need-skip-blanks-requires (node-claims t) (read-node-at t) read-node.Post
 read-node-skip-blanks-requires t c κs = search needs
@@ -211,16 +224,17 @@ read-node-is-digit-requires : (t : ℕ) → read-node-lts.Need-is-digit-requires
 read-node-is-digit-requires t c κs = search needs
 
 read-node-read-label-requires : (t : ℕ) → read-node-lts.Need-read-label-requires (node-claims t) (read-node-at t) read-node.Post
-read-node-read-label-requires t c κs = less-room (c .before .before .before .before .before .before .before .pre .1) (omega arith)
+read-node-read-label-requires t c κs = less-room (c .before .before .before .before .before .before .before .before .pre .1) (omega arith)
 
 read-node-same-length : (t : ℕ) → read-node-lts.Need-same-length (node-claims t) (read-node-at t) read-node.Post
 read-node-same-length t c = c .before .before .read-label .ensures .same
 
 read-node-returns : (t : ℕ) → read-node-lts.Need-returns (node-claims t) (read-node-at t) read-node.Post
 read-node-returns t c =
-    let d = c .before .before .before .before in
+    let d = c .before .before .before .before .before in
     let a = d .before .before .before .before .before .before .args in
-    via-label (a .s .now) (a .from) (d .before .before .before .skip-blanks .ensures) (d .before .before .byte-at .ensures) (d .before .is-digit .ensures) (a .room) (d .if1 .taken) (c .before .before .read-label .ensures)
+    via-label (a .s .now) (a .from) (d .before .before .before .skip-blanks .ensures) (d .before .before .byte-at .ensures) (d .before .is-digit .ensures)
+    (a .room) (d .if1 .taken) (c .before .before .read-label .ensures)
 
 read-node-refuse-requires : (t : ℕ) → read-node-lts.Need-refuse-requires (node-claims t) (read-node-at t) read-node.Post
 read-node-refuse-requires t c κs = search needs
@@ -246,20 +260,24 @@ read-node-sub-read-fork t c = search needs
 
 read-node-read-fork-requires : (t : ℕ) → read-node-lts.Need-read-fork-requires (node-claims t) (read-node-at t) read-node.Post
 read-node-read-fork-requires t c κs =
-    let start = c .before .before .before .before .before .before .before .before .before in
+    let start = c .before .before .before .before .before .before .before .before .before .before in
     let a = start .args in
-    let e = c .before .before .before .before .before .before .skip-blanks .ensures in
-    (bracket-takes (a .room) (a .s .now) (a .from) _ (start .pre .0) (c .before .if3 .left) e (bracket-in t (c .before)), less-room (start .pre .1) (omega (arith, c .before .if3 .left)))
+    let k = c .before .before in
+    let e = k .before .before .before .before .before .skip-blanks .ensures in (
+      bracket-takes (a .room) (a .s .now) (a .from) _ (start .pre .0) (k .if3 .left) e (bracket-in t k),
+      less-room (start .pre .1) (omega (arith, k .if3 .left)),
+    )
 
 read-node-same-length-2 : (t : ℕ) → read-node-lts.Need-same-length-2 (node-claims t) (read-node-at t) read-node.Post
 read-node-same-length-2 t c = c .before .before .read-fork .ensures .same
 
 read-node-returns-3 : (t : ℕ) → read-node-lts.Need-returns-3 (node-claims t) (read-node-at t) read-node.Post
 read-node-returns-3 t c =
-    let e = c .before .before .before .before in
+    let e = c .before .before .before .before .before in
     let d = e .before .before in
     let a = d .before .before .before .before .before .before .args in
-    via-fork (a .s .now) (a .from) (d .before .before .before .skip-blanks .ensures) (d .before .before .byte-at .ensures) (d .before .is-digit .ensures) (a .room) (d .if1 .left) (e .before .if2 .taken) (e .if3 .left) (c .before .before .read-fork .ensures)
+    via-fork (a .s .now) (a .from) (d .before .before .before .skip-blanks .ensures) (d .before .before .byte-at .ensures) (d .before .is-digit .ensures)
+    (a .room) (d .if1 .left) (e .before .if2 .taken) (e .if3 .left) (c .before .before .read-fork .ensures)
 
 read-node-refuse-requires-2 : (t : ℕ) → read-node-lts.Need-refuse-requires-2 (node-claims t) (read-node-at t) read-node.Post
 read-node-refuse-requires-2 t c κs = search needs

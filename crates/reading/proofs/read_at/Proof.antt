@@ -23,7 +23,7 @@ empty-requires c κs = search needs
 returns : tie.Need-returns
 returns c =
     let d = c .before .before .before .before in
-    let a = d .before .before .before .args in
+    let a = d .before .before .before .before .args in
     at-refused (a .s .now) (a .from) (d .read-node .ensures) (c .before .enum-told .given .1)
 
 expect-byte-requires : tie.Need-expect-byte-requires
@@ -35,13 +35,13 @@ slice-aggregate-canonical c = search needs
 canonical-requires : tie.Need-canonical-requires
 canonical-requires c κs =
     let d = c .before .before .before .before .before .before in
-    let a = d .before .before .before .args in
+    let a = d .before .before .before .before .args in
     read-holds (a .s .now) (a .from) (d .read-node .ensures) (c .before .before .before .step .given .1)
 
 returns-2 : tie.Need-returns-2
 returns-2 c =
     let d = c .before .before .before .before .before .before .before in
-    let a = d .before .before .before .args in
+    let a = d .before .before .before .before .args in
     at-end (a .s .now) (a .from) (d .read-node .ensures) (c .before .before .before .before .step .given .1) (c .before .before .expect-byte .ensures) (c .canonical .ensures)
 
 pub read-at-spec : {M : Type 1} → statement M

@@ -5,10 +5,10 @@ use mathlib.Core.Path.{_≡_, refl, sym, ap, subst, _∙_}
 use Prim.Native.Nat.{ℕ, _+_}
 use native.Mathlib.Omega.{arith}
 use borrow.Author.Needs.{needs}
+use lib.ListN.{getD}
 use Rattle.meaning.specs.Reading.{value, badLabel}
 use Rattle.meaning.proofs.Ways.{label-bad, label-again}
 use Rattle.reading.specs.Paper.{goesOn}
-use Rattle.reading.proofs.Draft.{draft-in}
 use Rattle.reading.proofs.Meet.{meets-refused, Checked, checked, label-room, label-got}
 use Rattle.reading.proofs.read_label.Statement.{statement}
 use Rattle.reading.proofs.read_label.Tie as tie
@@ -33,47 +33,44 @@ tested c = c .bad-label .ensures _ (c .before .digit-run .ensures .1)
 returns : tie.Need-returns
 returns c = meets-refused (label-bad _ _ _ (sym (tested (c .before .before)) ∙ c .before .if1 .taken)) (c .refuse .ensures) refl
 
--- what is known of the label once it was looked for, and the place where it was tested
+-- what is known of the label once its mark was read, and the place where it was tested
 abbrev Label : tie.After-bad-label → Bool → Type 0
 Label d found =
     let a = start d .args in
     Checked (a .s .now) (a .q) (a .node .now) (a .at) (d .before .digit-run .result .value) found
 
-abbrev test : (c : tie.After-contains) → tie.After-bad-label
-test c = c .before .before .before
+known : (c : tie.Else1) → Label (c .before) (getD (start (c .before) .args .marks .now) (c .before .before .digit-run .result .value) false)
+known c = checked _ _ _ _ _ _ (sym (tested (c .before)) ∙ c .if1 .left) (c .before .before .digit-run .ensures .1) (start (c .before) .pre .marked)
 
-known : (c : tie.After-contains) → Label (test c) (c .contains .result)
-known c = checked _ _ _ _ _ _ (sym (tested (test c)) ∙ c .before .before .if1 .left) (test c .before .digit-run .ensures .1) (c .contains .ensures)
+unseen : (c : tie.Else2) → Label (c .before .before .before) false
+unseen c = subst (Checked _ _ _ _ _) (c .if2 .left) (known (c .before .before))
 
-unseen : (c : tie.Else2) → Label (test (c .before)) false
-unseen c = subst (Checked _ _ _ _ _) (c .if2 .left) (known (c .before))
-
-contains-requires : tie.Need-contains-requires
-contains-requires c κs = omega (arith, draft-in (start (c .before .before) .pre))
+element-copy-out-if2 : tie.Need-element-copy-out-if2
+element-copy-out-if2 c = omega (arith, known c .small)
 
 refuse-requires-2 : tie.Need-refuse-requires-2
 refuse-requires-2 c κs = search needs
 
-same-length : tie.Need-same-length
-same-length c = search needs
-
 returns-2 : tie.Need-returns-2
-returns-2 c = let k = known (c .before .before) in meets-refused (label-again _ _ _ (k .allowed) (k .held ∙ c .before .if2 .taken)) (c .refuse2 .ensures) refl
+returns-2 c = let k = known (c .before .before .before) in meets-refused (label-again _ _ _ (k .allowed) (k .held ∙ c .before .if2 .taken)) (c .refuse2 .ensures) refl
 
 cast-node : tie.Need-cast-node
 cast-node c = search needs
 
 slice-write-node : tie.Need-slice-write-node
-slice-write-node c = omega (arith, label-room (unseen c) (start (test (c .before)) .pre))
+slice-write-node c = omega (arith, label-room (unseen c) (start (c .before .before .before) .pre))
 
-add-t13 : tie.Need-add-t13
-add-t13 c = let d = start (test (c .before)) in omega (arith, label-room (unseen c) (d .pre), d .pre .size)
+element-write-marks : tie.Need-element-write-marks
+element-write-marks c = omega (arith, unseen c .small)
 
-same-length-2 : tie.Need-same-length-2
-same-length-2 c = search needs
+add-t17 : tie.Need-add-t17
+add-t17 c = let d = start (c .before .before .before) in omega (arith, label-room (unseen c) (d .pre), d .pre .size)
+
+same-length : tie.Need-same-length
+same-length c = search needs
 
 returns-3 : tie.Need-returns-3
-returns-3 c = let d = test (c .before) in label-got (unseen c) (ap (λ (p : ℕ). goesOn p (start d .args .at + 1)) (d .before .digit-run .ensures .0))
+returns-3 c = let d = c .before .before .before in label-got (unseen c) (start d .pre) (ap (λ (p : ℕ). goesOn p (start d .args .at + 1)) (d .before .digit-run .ensures .0))
 
 pub read-label-spec : {M : Type 1} → statement M
 read-label-spec =
@@ -83,12 +80,12 @@ read-label-spec =
     bad-label-requires
     refuse-requires
     returns
-    contains-requires
+    element-copy-out-if2
     refuse-requires-2
-    same-length
     returns-2
     cast-node
     slice-write-node
-    add-t13
-    same-length-2
+    element-write-marks
+    add-t17
+    same-length
     returns-3)

@@ -1,0 +1,5 @@
+pub mod Bytes
+pub mod Entries
+pub mod Linked
+pub mod Rows
+pub mod Sharing

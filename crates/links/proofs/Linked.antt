@@ -1,0 +1,124 @@
+-- Links of first positions, and of all positions by their firsts.
+-- Assumes nothing.
+use mathlib.Core.Path.{_≡_, sym, ap₂, subst, _∙_}
+use mathlib.Core.Logic.{_↔_, _≢_}
+use mathlib.Core.Bool.{Bool, true, _&&_}
+use mathlib.Core.List.{List}
+use Prim.Native.Nat.{ℕ, min, max, _+_, _*_, _<_}
+use native.Mathlib.Omega.{arith}
+use native.Mathlib.Decide.{ℕ-discrete}
+use borrow.Author.Tests.{eq-eqb, ne-eqb, eqb-true}
+use lib.Dec.{eqb}
+use lib.ListN.{length, getD}
+use Rattle.meaning.specs.Limits.{maxTrees}
+use Rattle.meaning.specs.Tree.{Tree as Topology, AllGood}
+use Rattle.meaning.specs.Listing.{At}
+use Rattle.meaning.specs.Copies.{firstOf, merged, LinkedBy}
+use Rattle.meaning.proofs.Logic.{and-left, and-right}
+use Rattle.meaning.proofs.Copies.{first-inside, first-own, OnTopologies, moves-on, interchanges-on, ordered-related, of-two, ordered-less}
+use Rattle.held.specs.declared.Table.{Table}
+use Rattle.held.proofs.Kept.{keeps-good}
+use Rattle.pairs.specs.Link.{Linked}
+use Rattle.pairs.specs.declared.Link.{Link}
+use Rattle.pairs.specs.declared.Link.the-variants.{Move, Interchange}
+use Rattle.links.specs.Links.{Shows}
+use Rattle.links.specs.Copies.{linkOf, FirstsNoted, FirstsRoom, FirstsLinked, TreesLinked, CopyRoom}
+use Rattle.links.specs.declared.Copies.{Copies}
+use Rattle.links.specs.declared.Copies.the-variants.{Merged, KeptApart}
+
+-- both kinds of link hang on topologies
+pub link-on : (by : Link) → OnTopologies (Linked by)
+link-on Move = moves-on
+link-on Interchange = interchanges-on
+
+-- ---- the byte of two firsts
+module _ (links : List ℕ) (a b : ℕ) where
+  link-other : a ≢ b → linkOf links a b ≡ getD links (min a b * maxTrees + max a b) 0
+  link-other n = rw (ne-eqb a b n)
+
+  pub link-less : a < b → getD links (a * maxTrees + b) 0 ≡ linkOf links a b
+  link-less h =
+      let e : min a b ≡ a = omega arith in
+      let f : max a b ≡ b = omega arith in
+      sym (link-other (λ g. omega (arith, g)) ∙ ap₂ (λ (x y : ℕ). getD links (x * maxTrees + y) 0) e f)
+
+  pub link-more : b < a → getD links (b * maxTrees + a) 0 ≡ linkOf links a b
+  link-more h =
+      let e : min a b ≡ b = omega arith in
+      let f : max a b ≡ a = omega arith in
+      sym (link-other (λ g. omega (arith, g)) ∙ ap₂ (λ (x y : ℕ). getD links (x * maxTrees + y) 0) e f)
+
+  pub link-same : a ≡ b → 0 ≡ linkOf links a b
+  link-same e = rw (eq-eqb a b e)
+
+-- ---- which first positions are linked
+-- two positions are first, as a test
+pub both-iff : (ts : List Topology) (firsts : List ℕ) (i j : ℕ) → getD firsts i 0 ≡ firstOf ts i → getD firsts j 0 ≡ firstOf ts j
+    → ((eqb (getD firsts i 0) i && eqb (getD firsts j 0) j) ≡ true) ↔ ((firstOf ts i ≡ i) × (firstOf ts j ≡ j))
+both-iff ts firsts i j e f = (
+  λ t. (
+    sym e ∙ eqb-true (getD firsts i 0) i (and-left (eqb (getD firsts i 0) i) (eqb (getD firsts j 0) j) t),
+    sym f ∙ eqb-true (getD firsts j 0) j (and-right (eqb (getD firsts i 0) i) (eqb (getD firsts j 0) j) t),
+  ),
+  λ x. rw (eq-eqb (getD firsts i 0) i (e ∙ x .0), eq-eqb (getD firsts j 0) j (f ∙ x .1)),
+)
+
+-- what a test of first positions tells of two
+pub linked-iff : {x : ℕ} {b t : Bool} {P Q R : Type 0} → (x ≡ 1) ↔ ((b ≡ true) × R) → b ≡ t → (t ≡ true) ↔ (P × Q) → (x ≡ 1) ↔ (P × Q × R)
+linked-iff told e both = (
+  λ f. let (g, r) = told .0 f in let (p, q) = both .0 (sym e ∙ g) in (p, q, r),
+  λ x. told .1 (e ∙ both .1 (x .0, x .1), x .2),
+)
+
+-- ---- which positions are
+-- all are linked as their firsts are
+pub copied-iff : (by : Link) (ts : List Topology) → AllGood ts → (links : List ℕ) → Shows links (length ts) (LinkedBy merged (Linked by) ts)
+    → (i j : ℕ) → i < length ts → j < length ts → (linkOf links (firstOf ts i) (firstOf ts j) ≡ 1) ↔ At (Linked by) ts i j
+copied-iff by ts G links shows i j h l = go (ℕ-discrete (firstOf ts i) (firstOf ts j))
+  where
+    related : At (Linked by) ts i j ↔ ((firstOf ts i ≢ firstOf ts j) × At (Linked by) ts (min (firstOf ts i) (firstOf ts j)) (max (firstOf ts i) (firstOf ts j)))
+    related = ordered-related (link-on by) ts G i j h l
+
+    go : Dec (firstOf ts i ≡ firstOf ts j) → (linkOf links (firstOf ts i) (firstOf ts j) ≡ 1) ↔ At (Linked by) ts i j
+    go (yes e) = (λ f. absurd (omega (arith, f, link-same links (firstOf ts i) (firstOf ts j) e)), λ r. absurd (related .0 r .0 e))
+    go (no n) =
+        let a = firstOf ts i in
+        let b = firstOf ts j in
+        let inside = of-two (λ x. x < length ts) a b (first-inside ts i h) (first-inside ts j l) in
+        let own = of-two (λ x. firstOf ts x ≡ x) a b (first-own ts i h) (first-own ts j l) in
+        let shown = shows (min a b) (max a b) (ordered-less a b n) (inside .1) in (
+          λ f. related .1 (n, shown .0 (sym (link-other links a b n) ∙ f) .2),
+          λ r. link-other links a b n ∙ shown .1 (own .0, own .1, related .0 r .1),
+        )
+
+-- ---- the links of a table
+-- the room for the links of all positions
+pub copy-room : {table : Table} {firsts links : List ℕ} → FirstsRoom table firsts links → CopyRoom firsts (table .len) links
+copy-room f =
+    let k = f .kept .keeps in
+    record {
+      few = omega (arith, k .count, k .few);
+      lent = omega (arith, k .count, k .few, f .lent);
+      below = λ i h.
+          let inside : i < length (f .kept .trees) = omega (arith, k .count) in
+          omega (arith, f .noted (f .kept .trees) k i inside, first-inside (f .kept .trees) i inside, k .few);
+      bytes = f .bytes;
+    }
+
+module _ (by : Link) {table : Table} where
+  -- first positions alone
+  pub merged-linked : {copies : Copies} (links : List ℕ) → copies ≡ Merged → FirstsLinked by table links → TreesLinked by copies table links
+  merged-linked links e w = subst (λ (c : Copies). TreesLinked by c table links) (sym e) w
+
+  -- all positions, by their firsts
+  pub kept-linked : {copies : Copies} (firsts linked links : List ℕ) → copies ≡ KeptApart → FirstsNoted table firsts → FirstsLinked by table linked
+      → Shows links (table .len) (λ i j. linkOf linked (getD firsts i 0) (getD firsts j 0) ≡ 1) → TreesLinked by copies table links
+  kept-linked firsts linked links e noted first all = subst (λ (c : Copies). TreesLinked by c table links) (sym e) each
+    where
+      each : TreesLinked by KeptApart table links
+      each ts h i j lt l =
+          let i-in : i < length ts = omega arith in
+          let shown = all i j lt (omega (arith, h .count)) in
+          let same = ap₂ (linkOf linked) (noted ts h i i-in) (noted ts h j l) in
+          let iff = copied-iff by ts (keeps-good h) linked (first ts h) i j i-in l in
+          (λ x. iff .0 (sym same ∙ shown .0 x), λ r. shown .1 (same ∙ iff .1 r))
