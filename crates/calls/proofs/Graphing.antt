@@ -19,19 +19,19 @@ use Rattle.lent.proofs.Runs.{sets-start}
 use Rattle.held.specs.Kept.{KeepsAll, KeptAll}
 use Rattle.reading.specs.declared.Refusal.{Refusal}
 use Rattle.reading.specs.declared.Step.the-variants.{Next, Refused as StepRefused}
-use Rattle.reading.specs.declared.tables.TableRead.{TableRead}
-use Rattle.pairs.specs.declared.Link.{Link}
-use Rattle.pairs.specs.declared.Link.the-variants.{Move}
+use Rattle.tables.specs.declared.TableRead.{TableRead}
+use Rattle.links.specs.declared.Link.{Link}
+use Rattle.links.specs.declared.Link.the-variants.{Move}
 use Rattle.links.specs.Links.{OfTrees}
 use Rattle.links.specs.Copies.{choiceOf}
 use Rattle.links.specs.declared.Copies.{Copies}
 use Rattle.graph.specs.Graph.{ListRoom, Graph}
 use Rattle.graph.specs.Copies.{GraphRoom, FirstsGraph, GraphWritten}
 use Rattle.graph.specs.Islands.{IslandGraphRoom, IslandsWritten}
-use Rattle.reading.specs.Lent.{TableLent}
+use Rattle.tables.specs.Lent.{TableLent}
 use Rattle.calls.specs.Paper.{graphOutcome, firstsOutcome, islandsOutcome}
 use Rattle.calls.specs.declared.GraphAnswer.the-variants.{Listed, Refused}
-use Rattle.reading.proofs.Lent.{Given, lent-next, lent-refused}
+use Rattle.tables.proofs.Lent.{Given, lent-next, lent-refused}
 
 -- what a graph that was written leaves in the lent slices
 module _ {k n : ℕ} {L : ℕ → ℕ → Type 0} {memory memory′ : GraphMemory} (room : ListRoom memory) (few : k ≤ maxTrees) (g : Graph k L memory memory′ n) where

@@ -23,12 +23,12 @@ use Rattle.held.specs.declared.Table.{Table}
 use Rattle.held.proofs.Kept.{keeps-good}
 use Rattle.reading.specs.declared.Refusal.{Refusal}
 use Rattle.reading.specs.declared.Step.the-variants.{Next, Refused as StepRefused}
-use Rattle.reading.specs.declared.tables.TableRead.{TableRead}
-use Rattle.reading.specs.Lent.{TableLent}
+use Rattle.tables.specs.declared.TableRead.{TableRead}
+use Rattle.tables.specs.Lent.{TableLent}
 use Rattle.calls.specs.Paper.{tableOutcome}
 use Rattle.calls.specs.Tabled.{textSlices, TableRoom, TextsWritten, TableWritten}
 use Rattle.calls.specs.declared.TableAnswer.the-variants.{Written, Refused}
-use Rattle.reading.proofs.Lent.{Given, lent-next, lent-refused}
+use Rattle.tables.proofs.Lent.{Given, lent-next, lent-refused}
 use Rattle.meaning.proofs.Lent.{concluded}
 
 -- ---- one tree more

@@ -28,13 +28,13 @@ use Rattle.reading.specs.declared.Refusal.{Refusal}
 use Rattle.reading.specs.declared.TreeRead.{TreeRead}
 use Rattle.reading.specs.declared.Step.the-variants.{Next, Refused as StepRefused}
 use Rattle.writing.specs.Writing.{ForestFits}
-use Rattle.reading.specs.Lent.{TreeLent}
+use Rattle.tables.specs.Lent.{TreeLent}
 use Rattle.calls.specs.Cuts.{CutRoom, cutText}
 use Rattle.reading.specs.Paper.{refusalOf}
 use Rattle.calls.specs.Paper.{textOutcome}
 use Rattle.calls.specs.declared.TextAnswer.{TextAnswer}
 use Rattle.calls.specs.declared.TextAnswer.the-variants.{Written, Refused}
-use Rattle.reading.proofs.Lent.{Given, lent-next, lent-refused}
+use Rattle.tables.proofs.Lent.{Given, lent-next, lent-refused}
 use Rattle.meaning.proofs.Lent.{concluded}
 
 -- what is written from the start of a slice on

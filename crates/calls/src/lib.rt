@@ -2,7 +2,7 @@
 use held::Table;
 use held::Tree;
 use links::Copies;
-use pairs::Link;
+use links::Link;
 use reading::Refusal;
 use reading::Step;
 use sheet::Sheet;
@@ -58,7 +58,7 @@ fn enough(least: usize, len: usize, others: bool) -> bool
 pub fn form_call(s: &[u8], out: &mut [u8]) -> TextAnswer
     ensures { λ r. ⌜ textOutcome r (now (out .exit)) ≡ formCall (now (s .entry)) (now (out .entry)) ⌝ }
 {
-    let read = reading::read_lent(s, enough(Tree::FORM_BYTES, out.len(), true));
+    let read = tables::read_lent(s, enough(Tree::FORM_BYTES, out.len(), true));
     let step = read.step;
     match step {
         Step::Refused(x) => TextAnswer::Refused(x),
@@ -81,7 +81,7 @@ fn write_cut(out: &mut [u8], tree: Tree, count: usize, cut: usize) -> TextAnswer
 pub fn cut_call(s: &[u8], cut: usize, out: &mut [u8]) -> TextAnswer
     ensures { λ r. ⌜ textOutcome r (now (out .exit)) ≡ cutCall (now (s .entry)) cut (now (out .entry)) ⌝ }
 {
-    let read = reading::read_lent(s, enough(Tree::FOREST_BYTES, out.len(), true));
+    let read = tables::read_lent(s, enough(Tree::FOREST_BYTES, out.len(), true));
     let step = read.step;
     match step {
         Step::Refused(x) => TextAnswer::Refused(x),
@@ -101,7 +101,7 @@ fn compare(first: Tree, second: Tree, behind: usize) -> PairAnswer
     requires { ⌜ Kept first × Kept second × (1 ≤ behind) ⌝ }
     ensures { λ r. ⌜ ((t u : Topology) → Keeps first t → Keeps second u → Answers (beside t (got u behind)) (pairAnswer r)) ⌝ }
 {
-    let line = reading::unlike(first, second);
+    let line = tables::unlike(first, second);
     if line != 0 {
         return PairAnswer::Refused(Refusal {
             number: line,
@@ -184,7 +184,7 @@ pub fn table_call(s: &[u8], texts: &mut [u8], ends: &mut [u32]) -> TableAnswer
         ≡ tableCall (now (s .entry)) (textSlices (now (texts .entry)) (now (ends .entry))) ⌝ }
 {
     let ends_fit = enough(Table::MAX_TREES, ends.len(), true);
-    let read = reading::read_lent_table(s, enough(Table::TEXT_BYTES, texts.len(), ends_fit));
+    let read = tables::read_lent_table(s, enough(Table::TEXT_BYTES, texts.len(), ends_fit));
     let step = read.step;
     match step {
         Step::Refused(x) => TableAnswer::Refused(x),
@@ -224,7 +224,7 @@ pub fn interchange_call(s: &[u8], pairs: &mut [u16], counts: &mut [u16]) -> Grap
         (graphOutcome r (now (pairs .exit)) (now (counts .exit))) ⌝ }
 {
     let counts_fit = enough(Table::MAX_TREES, counts.len(), true);
-    let read = reading::read_lent_table(s, enough(Table::PAIR_NUMBERS, pairs.len(), counts_fit));
+    let read = tables::read_lent_table(s, enough(Table::PAIR_NUMBERS, pairs.len(), counts_fit));
     let step = read.step;
     match step {
         Step::Refused(x) => GraphAnswer::Refused(x),
@@ -250,7 +250,7 @@ pub fn graph_call_choosing(
 {
     let firsts_fit = enough(Table::MAX_TREES, firsts.len(), true);
     let counts_fit = enough(Table::MAX_TREES, counts.len(), firsts_fit);
-    let read = reading::read_lent_table(s, enough(Table::PAIR_NUMBERS, pairs.len(), counts_fit));
+    let read = tables::read_lent_table(s, enough(Table::PAIR_NUMBERS, pairs.len(), counts_fit));
     let step = read.step;
     match step {
         Step::Refused(x) => GraphAnswer::Refused(x),
@@ -290,7 +290,7 @@ pub fn islands_call(
     let islands_fit = enough(Table::MAX_TREES, islands.len(), true);
     let firsts_fit = enough(Table::MAX_TREES, firsts.len(), islands_fit);
     let counts_fit = enough(Table::MAX_TREES, counts.len(), firsts_fit);
-    let read = reading::read_lent_table(s, enough(Table::PAIR_NUMBERS, pairs.len(), counts_fit));
+    let read = tables::read_lent_table(s, enough(Table::PAIR_NUMBERS, pairs.len(), counts_fit));
     let step = read.step;
     match step {
         Step::Refused(x) => GraphAnswer::Refused(x),

@@ -19,7 +19,7 @@ use Rattle.meaning.proofs.MergedIslands.{merged-found}
 use Rattle.lent.specs.Runs.{Wrote}
 use Rattle.lent.proofs.Runs.{sets-start, wrote-one, wrote-more, wrote-length, written-first, same-behind, written-over}
 use Rattle.held.specs.declared.Table.{Table}
-use Rattle.pairs.specs.declared.Link.the-variants.{Move}
+use Rattle.links.specs.declared.Link.the-variants.{Move}
 use Rattle.graph.specs.Copies.{GraphWritten}
 use Rattle.links.specs.declared.Copies.the-variants.{Merged}
 use Rattle.graph.specs.Listed.{PairsListed}

@@ -10,8 +10,8 @@ use Rattle.meaning.specs.Answer.{GraphMemory}
 use Rattle.lent.specs.Runs.{Wrote}
 use Rattle.held.specs.Kept.{KeptAll}
 use Rattle.held.specs.declared.Table.{Table}
-use Rattle.pairs.specs.Link.{Linked}
-use Rattle.pairs.specs.declared.Link.{Link}
+use Rattle.links.specs.Link.{Linked}
+use Rattle.links.specs.declared.Link.{Link}
 use Rattle.links.specs.Links.{OfTrees}
 use Rattle.links.specs.Copies.{choiceOf}
 use Rattle.links.specs.declared.Copies.{Copies}

@@ -11,7 +11,7 @@ use Rattle.meaning.specs.Islands.{Within}
 use Rattle.meaning.specs.Copies.{MergedIslands}
 use Rattle.lent.specs.Runs.{Wrote}
 use Rattle.held.specs.declared.Table.{Table}
-use Rattle.pairs.specs.declared.Link.the-variants.{Move}
+use Rattle.links.specs.declared.Link.the-variants.{Move}
 use Rattle.links.specs.Links.{OfTrees}
 use Rattle.links.specs.declared.Copies.the-variants.{Merged}
 use Rattle.graph.specs.Copies.{GraphRoom, FirstsGraph}

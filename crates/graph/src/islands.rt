@@ -2,7 +2,7 @@
 use super::list_pairs;
 use held::Table;
 use links::Copies;
-use pairs::Link;
+use links::Link;
 ghost use mathlib.Core.Path.{_≡_};
 ghost use mathlib.Core.List.{List, map};
 ghost use Prim.Native.Nat.{_≤_, _<_};

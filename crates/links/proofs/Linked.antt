@@ -18,9 +18,9 @@ use Rattle.meaning.proofs.Logic.{and-left, and-right}
 use Rattle.meaning.proofs.Copies.{first-inside, first-own, OnTopologies, moves-on, interchanges-on, ordered-related, of-two, ordered-less}
 use Rattle.held.specs.declared.Table.{Table}
 use Rattle.held.proofs.Kept.{keeps-good}
-use Rattle.pairs.specs.Link.{Linked}
-use Rattle.pairs.specs.declared.Link.{Link}
-use Rattle.pairs.specs.declared.Link.the-variants.{Move, Interchange}
+use Rattle.links.specs.Link.{Linked}
+use Rattle.links.specs.declared.Link.{Link}
+use Rattle.links.specs.declared.Link.the-variants.{Move, Interchange}
 use Rattle.links.specs.Links.{Shows}
 use Rattle.links.specs.Copies.{linkOf, FirstsNoted, FirstsRoom, FirstsLinked, TreesLinked, CopyRoom}
 use Rattle.links.specs.declared.Copies.{Copies}

@@ -10,8 +10,8 @@ use Rattle.meaning.specs.Limits.{maxTrees}
 use Rattle.meaning.specs.Copies.{Choice, merged, kept-apart, firstOf, LinkedBy}
 use Rattle.held.specs.Kept.{KeptAll}
 use Rattle.held.specs.declared.Table.{Table}
-use Rattle.pairs.specs.Link.{Linked}
-use Rattle.pairs.specs.declared.Link.{Link}
+use Rattle.links.specs.Link.{Linked}
+use Rattle.links.specs.declared.Link.{Link}
 use Rattle.links.specs.Links.{linkBytes, Shows, OfTrees}
 use Rattle.links.specs.declared.Copies.{Copies}
 use Rattle.links.specs.declared.Copies.the-variants.{Merged, KeptApart}

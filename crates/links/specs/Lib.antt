@@ -1,3 +1,4 @@
 pub mod Copies
 pub mod Entries
+pub mod Link
 pub mod Links

@@ -10,7 +10,7 @@ ghost use Rattle.meaning.specs.Tree.{Tree as Topology, canon};
 ghost use Rattle.lent.specs.Runs.{Says};
 ghost use Rattle.held.specs.Kept.{Keeps};
 ghost use Rattle.pairs.specs.Pair.{SameForest};
-ghost use Rattle.pairs.specs.declared.Link.the-variants.{Move};
+ghost use Rattle.links.specs.declared.Link.the-variants.{Move};
 ghost use Rattle.chains.specs.Chains.{Last};
 ghost use Rattle.links.specs.Links.{OfTrees};
 ghost use Rattle.links.specs.Copies.{FirstsRoom, FirstsLinked};

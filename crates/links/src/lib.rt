@@ -5,7 +5,6 @@ pub mod forests;
 use forests::link_moves;
 use held::Table;
 use held::Tree;
-use pairs::Link;
 ghost use mathlib.Core.Path.{_≡_};
 ghost use mathlib.Core.Bool.{true, _&&_};
 ghost use Prim.Native.Nat.{_<_};
@@ -18,13 +17,19 @@ ghost use Rattle.held.specs.Kept.{Keeps, Kept};
 ghost use Rattle.meaning.specs.Interchange.{OneInterchange};
 ghost use Rattle.links.specs.Links.{Shows};
 ghost use Rattle.links.specs.Copies.{linkOf, FirstsRoom, FirstsLinked, CopyRoom, TreesLinked};
-ghost use Rattle.pairs.specs.declared.Link.the-variants.{Interchange};
+ghost use Rattle.links.specs.declared.Link.the-variants.{Interchange};
 
 // A byte for each two positions, that of row i and column j at i * MAX_TREES + j: 1 where i and j are linked.
 pub struct Links {}
 
 impl Links {
     pub const SIZE: usize = Table::MAX_TREES * Table::MAX_TREES;
+}
+
+// What links two trees.
+pub enum Link {
+    Move,
+    Interchange,
 }
 
 // What becomes of copies: they are merged into the first of them, or kept apart.
@@ -52,7 +57,7 @@ fn linked_firsts(first: bool, a: Tree, b: Tree) -> bool
     if !first {
         return false;
     }
-    pairs::one_interchange_apart(a, b)
+    interchanges::one_interchange_apart(a, b)
 }
 
 // Links the first positions of topologies that are one interchange apart: each two are tried.

@@ -2,9 +2,6 @@ pub mod Apart
 pub mod Children
 pub mod Left
 pub mod Ordered
-pub mod Parts
-pub mod Regroup
 pub mod Runs
 pub mod Search
-pub mod Walk
 pub mod Ways

@@ -1,5 +1,3 @@
-pub mod Interchanged
 pub mod Left
-pub mod Link
 pub mod Ordered
 pub mod Pair

@@ -1,9 +1,7 @@
-// The tests of two trees: whether they are one move apart, and whether they are one interchange apart.
-pub mod interchanges;
+// The pair test: whether two trees are one move apart.
 pub mod remainders;
 
 use held::Tree;
-pub use interchanges::one_interchange_apart;
 ghost use mathlib.Core.Path.{_≡_};
 ghost use Prim.Native.Nat.{_+_};
 ghost use Rattle.meaning.specs.Tree.{Tree as Topology, fork, canon};
@@ -15,7 +13,7 @@ ghost use Rattle.pairs.specs.Ordered.{HeldFork};
 ghost use Rattle.pairs.specs.Pair.{OrderedCut, Marked, SameForest, SharesForest};
 
 // Whether the subtree of x at i is that of y at j. Most that differ do so at their first byte, which also tells the width.
-fn same_subtree(x: &[u8], i: usize, y: &[u8], j: usize) -> bool
+pub fn same_subtree(x: &[u8], i: usize, y: &[u8], j: usize) -> bool
     requires { ⌜ Held (now x) i × Held (now y) j ⌝ }
     ensures { λ r. ⌜ ((s t : Topology) → Holds (now (x .entry)) i s → Holds (now (y .entry)) j t → Says r (s ≡ t)) ⌝ }
 {
@@ -26,7 +24,7 @@ fn same_subtree(x: &[u8], i: usize, y: &[u8], j: usize) -> bool
 }
 
 // The index of the second child of the fork at k.
-fn second_child(n: &[u8], k: usize) -> usize
+pub fn second_child(n: &[u8], k: usize) -> usize
     requires { ⌜ HeldFork (now n) k ⌝ }
     ensures { λ r. ⌜ ((a b : Topology) → Holds (now (n .entry)) k (fork a b) → r ≡ k + 1 + nodes a) ⌝ }
 {
@@ -110,10 +108,4 @@ pub fn one_move_apart(a: Tree, b: Tree) -> bool
     } else {
         shares_forest(a, b)
     }
-}
-
-// What links two trees.
-pub enum Link {
-    Move,
-    Interchange,
 }

@@ -1,4 +1,3 @@
 pub mod Draft
-pub mod Lent
 pub mod Paper
 pub mod Whole

@@ -1,14 +1,5 @@
-// Reads tree text: blanks, labels, nodes and forks; the module `tables` reads many trees, and `limited` a text for a call.
+// Reads tree text: blanks, labels, nodes and forks, and a text of one tree.
 use held::Tree;
-
-pub mod limited;
-pub mod tables;
-
-pub use limited::read_lent;
-pub use limited::read_lent_table;
-pub use tables::TableRead;
-pub use tables::read_table;
-pub use tables::unlike;
 ghost use mathlib.Core.Path.{_≡_};
 ghost use Prim.Native.Nat.{ℕ, min, suc, _+_, _-_, _/_, _≤_, _<_};
 ghost use lib.ListN.{getD};

@@ -11,11 +11,11 @@ use Rattle.meaning.specs.Sheet.{refusalLine, Printout, prints}
 use Rattle.lent.specs.Runs.{Wrote}
 use Rattle.lent.proofs.Runs.{sets-start, wrote-length}
 use Rattle.held.specs.Kept.{KeepsAll}
-use Rattle.reading.specs.Lent.{TableLent}
+use Rattle.tables.specs.Lent.{TableLent}
 use Rattle.reading.specs.declared.Refusal.{Refusal}
 use Rattle.reading.specs.declared.Step.the-variants.{Next, Refused}
-use Rattle.reading.specs.declared.tables.TableRead.{TableRead}
-use Rattle.reading.proofs.Lent.{Given, lent-next, lent-refused}
+use Rattle.tables.specs.declared.TableRead.{TableRead}
+use Rattle.tables.proofs.Lent.{Given, lent-next, lent-refused}
 use Rattle.sheet.specs.Printed.{TableFits, ShownAll, Printed}
 
 -- a program prints at most `most` bytes, of which there is room

@@ -16,7 +16,7 @@ use Rattle.lent.specs.Runs.{Wrote}
 use Rattle.lent.proofs.Runs.{starts-with}
 use Rattle.held.specs.Kept.{KeepsAll}
 use Rattle.held.specs.declared.Table.{Table}
-use Rattle.pairs.specs.declared.Link.the-variants.{Move}
+use Rattle.links.specs.declared.Link.the-variants.{Move}
 use Rattle.graph.specs.Copies.{GraphRoom, GraphWritten}
 use Rattle.links.specs.declared.Copies.the-variants.{KeptApart}
 use Rattle.graph.specs.Listed.{PairsListed}

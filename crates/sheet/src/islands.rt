@@ -52,7 +52,7 @@ fn write_table_islands(out: &mut [u8], table: Table) -> usize
 pub fn print_islands(s: &[u8], out: &mut [u8; IslandSheet::MAX_BYTES]) -> usize
     ensures { λ r. ⌜ Printed IslandSheetOf (now (s .entry)) (now (out .entry)) (now (out .exit)) r ⌝ }
 {
-    let read = reading::read_lent_table(s, true);
+    let read = tables::read_lent_table(s, true);
     let step = read.step;
     match step {
         Step::Refused(x) => super::print_refusal(out, x),

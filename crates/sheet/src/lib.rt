@@ -7,7 +7,7 @@ use held::Tree;
 pub use islands::IslandSheet;
 pub use islands::print_islands;
 use links::Copies;
-use pairs::Link;
+use links::Link;
 use reading::Refusal;
 use reading::Step;
 ghost use mathlib.Core.List.{List};
@@ -151,7 +151,7 @@ pub fn print_sheet(s: &[u8], out: &mut [u8]) -> usize
     requires { ⌜ sheetBytes ≤ length (now out) ⌝ }
     ensures { λ r. ⌜ Printed SheetOf (now (s .entry)) (now (out .entry)) (now (out .exit)) r ⌝ }
 {
-    let read = reading::read_lent_table(s, true);
+    let read = tables::read_lent_table(s, true);
     let step = read.step;
     match step {
         Step::Refused(x) => print_refusal(out, x),

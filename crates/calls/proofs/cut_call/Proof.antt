@@ -1,8 +1,8 @@
 -- `calls::cut_call` meets its contract.
 -- Assumes nothing.
 use Rattle.calls.proofs.Texts.{cutTree, cut-refused, cut-room, cut-done}
-use Rattle.reading.specs.Lent.{TreeLent}
-use Rattle.reading.proofs.Lent.{measured}
+use Rattle.tables.specs.Lent.{TreeLent}
+use Rattle.tables.proofs.Lent.{measured}
 use borrow.Author.Needs.{needs}
 use Rattle.calls.proofs.cut_call.Statement.{statement}
 use Rattle.calls.proofs.cut_call.Tie as tie

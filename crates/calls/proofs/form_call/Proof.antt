@@ -2,8 +2,8 @@
 -- Assumes nothing.
 use Rattle.calls.proofs.Texts.{form-fits, form-refused, form-written}
 use Rattle.meaning.specs.Calls.{formRead}
-use Rattle.reading.specs.Lent.{TreeLent}
-use Rattle.reading.proofs.Lent.{measured}
+use Rattle.tables.specs.Lent.{TreeLent}
+use Rattle.tables.proofs.Lent.{measured}
 use borrow.Author.Needs.{needs}
 use Rattle.calls.proofs.form_call.Statement.{statement}
 use Rattle.calls.proofs.form_call.Tie as tie

@@ -8,8 +8,8 @@ use lib.ListN.{length}
 use Rattle.meaning.specs.Limits.{maxTrees, pairNumbers}
 use Rattle.meaning.specs.Answer.{FirstsMemory}
 use Rattle.meaning.specs.Calls.{firstsRead}
-use Rattle.reading.specs.Lent.{TableLent}
-use Rattle.reading.proofs.Lent.{measured}
+use Rattle.tables.specs.Lent.{TableLent}
+use Rattle.tables.proofs.Lent.{measured}
 use Rattle.calls.specs.Paper.{firstSlices}
 use Rattle.calls.proofs.Graphing.{graph-refused, graph-room, graph-listed}
 use Rattle.calls.proofs.graph_call_choosing.Statement.{statement}

@@ -10,8 +10,8 @@ use Rattle.meaning.specs.Limits.{pairNumbers}
 use Rattle.meaning.specs.Answer.{GraphMemory}
 use Rattle.meaning.specs.Calls.{graphRead}
 use Rattle.graph.specs.Graph.{slices}
-use Rattle.reading.specs.Lent.{TableLent}
-use Rattle.reading.proofs.Lent.{measured}
+use Rattle.tables.specs.Lent.{TableLent}
+use Rattle.tables.proofs.Lent.{measured}
 use Rattle.calls.proofs.interchange_call.Statement.{statement}
 use Rattle.calls.proofs.interchange_call.Tie as tie
 

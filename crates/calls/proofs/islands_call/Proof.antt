@@ -8,8 +8,8 @@ use lib.ListN.{length}
 use Rattle.meaning.specs.Limits.{maxTrees, pairNumbers}
 use Rattle.meaning.specs.Answer.{IslandsMemory}
 use Rattle.meaning.specs.Calls.{islandsRead}
-use Rattle.reading.specs.Lent.{TableLent}
-use Rattle.reading.proofs.Lent.{measured}
+use Rattle.tables.specs.Lent.{TableLent}
+use Rattle.tables.proofs.Lent.{measured}
 use Rattle.calls.specs.Paper.{islandSlices}
 use Rattle.calls.proofs.Graphing.{islands-refused, islands-room, islands-listed}
 use Rattle.calls.proofs.islands_call.Statement.{statement}

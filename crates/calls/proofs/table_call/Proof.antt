@@ -10,8 +10,8 @@ use Rattle.meaning.specs.Limits.{tableBytes}
 use Rattle.meaning.specs.Answer.{TableMemory}
 use Rattle.meaning.specs.Calls.{tableCallRead}
 use Rattle.calls.specs.Tabled.{textSlices}
-use Rattle.reading.specs.Lent.{TableLent}
-use Rattle.reading.proofs.Lent.{measured}
+use Rattle.tables.specs.Lent.{TableLent}
+use Rattle.tables.proofs.Lent.{measured}
 use Rattle.calls.proofs.table_call.Statement.{statement}
 use Rattle.calls.proofs.table_call.Tie as tie
 

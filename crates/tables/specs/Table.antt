@@ -1,0 +1,13 @@
+-- What reading a table answers: where it goes on, or why it ends, and what was read, kept.
+-- Assumes nothing.
+use mathlib.Core.List.{List}
+use lib.ListN.{length}
+use Rattle.meaning.specs.Tree.{Tree}
+use Rattle.meaning.specs.Reading.{Read}
+use Rattle.held.specs.Kept.{KeepsAll}
+use Rattle.reading.specs.Paper.{StepMeets}
+use Rattle.tables.specs.declared.TableRead.{TableRead}
+
+-- the trees, kept, and their number
+abbrev pub TableMeets : TableRead → Read (List Tree) → Type 0
+TableMeets r g = StepMeets length (KeepsAll (r .table)) (r .step) g
