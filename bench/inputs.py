@@ -1,5 +1,5 @@
 #!/usr/bin/env python3
-"""Benchmark inputs for the pair lister.
+"""Benchmark inputs for the pair lister and the support call.
 
     inputs.py OUTDIR
 
@@ -22,6 +22,11 @@ Full tables, 160 trees of 64 leaves:
     one_forest   one leaf hung on each node of one tree: all topologies are
                  neighbours of each other.  There are 125, and the first of
                  them come once more
+
+For the support call some of these, and one more of the same size:
+
+    most_clades  no two trees share a clade but the whole label set, so that
+                 there are as many clades as a table can have
 
 Without copies: `distinct_of_near_copies`, the first tree of each topology of
 `near_copies`.
@@ -80,6 +85,19 @@ def topology(tree):
     if not isinstance(tree, tuple):
         return tree
     return frozenset((topology(tree[0]), topology(tree[1])))
+
+
+def labels(tree):
+    """The set of labels of a tree."""
+    if not isinstance(tree, tuple):
+        return frozenset((tree,))
+    return labels(tree[0]) | labels(tree[1])
+
+
+def clades(tree):
+    """The label sets of all forks but the root."""
+    below = (subtree(tree, path) for path in paths(tree)[1:])
+    return {labels(node) for node in below if isinstance(node, tuple)}
 
 
 def random_tree(rng, leaves):
@@ -224,7 +242,24 @@ def one_forest(rng, leaves):
     return [trees[i % len(trees)] for i in range(TREES)]
 
 
+def most_clades(rng, leaves):
+    """Random trees of two combs of half the leaves each, without those that
+    share a clade with one before.  There are too few sets of two labels for
+    more than some in each tree, and too few without one label for a comb of all
+    leaves."""
+    trees = []
+    met = set()
+    while len(trees) < TREES:
+        order = rng.sample(range(1, leaves + 1), leaves)
+        tree = (comb(order[:leaves // 2]), comb(order[leaves // 2:]))
+        if met.isdisjoint(clades(tree)):
+            met |= clades(tree)
+            trees.append(tree)
+    return trees
+
+
 FULL_TABLES = (unrelated, chain, near_copies, combs, copies, interchange_chain, mixed_chains, one_forest)
+SUPPORT_TABLES = (most_clades, unrelated, near_copies, copies, combs, chain, one_forest)
 
 
 # Texts
@@ -279,11 +314,17 @@ def inputs():
             yield sized(make, TREES, leaves), text_of(table_of(make, leaves))
 
 
-def write_inputs(directory):
-    """Write all inputs.  Gives (name, path) for each, in order."""
+def support_inputs():
+    """Yield (name, text) for each input of the support call."""
+    for make in SUPPORT_TABLES:
+        yield make.__name__, text_of(table_of(make, LEAVES))
+
+
+def write_inputs(directory, named):
+    """Write inputs.  Gives (name, path) for each, in order."""
     os.makedirs(directory, exist_ok=True)
     written = []
-    for name, text in inputs():
+    for name, text in named:
         if len(text) > MOST_BYTES:
             raise ValueError("%s is too long: %d bytes" % (name, len(text)))
         path = os.path.join(directory, name + ".txt")
@@ -298,7 +339,8 @@ def main(arguments):
     if len(arguments) != 1:
         print("usage: inputs.py OUTDIR", file=sys.stderr)
         return 2
-    write_inputs(arguments[0])
+    write_inputs(arguments[0], inputs())
+    write_inputs(arguments[0], support_inputs())
     return 0
 
 

@@ -2,6 +2,7 @@
 """Compare the speed of a pair lister with that of two programs in Rust.
 
     run.py [OUR_PROGRAM] [--interchanges | --islands] [--repeat N] [--picture FILE]
+    run.py [OUR_PROGRAM] --support [--repeat N]
 
 OUR_PROGRAM is the path of an executable that reads a table of trees from
 standard input and prints the sheet; if it is left out, the pair lister is built
@@ -18,6 +19,14 @@ The time of an input is the wall time of the whole process, the best of N runs,
 less the same for an empty input, which is what starting the process costs.  The
 last column has the ratio to the last program with the start left in.  The
 picture, an SVG file, shows the times against the number of trees.
+
+With --support OUR_PROGRAM is that of support.c; if it is left out, it is built
+over the library, which tools/native.sh builds.  It and the plain one print how
+many trees have each clade, and the majority tree, for some full tables.  Times
+are those of the whole process, start included; the time of the call alone, the
+best of many in one process, is what OUR_PROGRAM prints with --repeat.  Where
+there is a goal for the whole time it is shown; the exit status does not depend
+on it.
 """
 
 import argparse
@@ -35,11 +44,16 @@ import picture
 
 HERE = os.path.dirname(os.path.abspath(__file__))
 NATIVE = os.path.join(os.path.dirname(HERE), "tools", "native.sh")
+INCLUDE = os.path.join(os.path.dirname(HERE), "include")
 DEFAULT_REPEAT = 5
 # Starting a process is short and goes into every row, so it is measured often.
 EMPTY_REPEAT_FACTOR = 20
+# So is a call, next to starting a process for it.
+CALL_REPEAT_FACTOR = 20
 # Below this a time is mostly the noise of starting the process.
 SHORTEST_FOR_RATIO_MS = 0.05
+# What the support of a table may take.
+SUPPORT_GOALS_MS = {"most_clades": 20, "unrelated": 20, "near_copies": 5}
 
 HEAD = "%-23s %6s %7s %8s"
 COLUMN = " %11s"
@@ -61,16 +75,36 @@ def build_rust(name):
     return os.path.join(target, "release", name + (".exe" if os.name == "nt" else ""))
 
 
-def build_ours(directory):
+def build_native(crate, called, path):
+    """Build a crate for this machine into a file."""
+    try:
+        subprocess.run([NATIVE, crate, path], check=True)
+    except (OSError, subprocess.CalledProcessError) as error:
+        raise Failed("the %s cannot be built: %s" % (called, error)) from error
+    machine = platform.machine()
+    how = "as rt makes it" if machine == "x86_64" else "from the LLVM module that rt compiles for x86-64"
+    print("%s: built for %s, %s" % (called, machine, how))
+
+
+def build_pair_lister(directory):
     """Build the pair lister for this machine and give its path."""
     program = os.path.join(directory, "pair_lister")
+    build_native("pair_lister", "pair lister", program)
+    return program
+
+
+def build_support(directory):
+    """Build the library and the program of support.c over it, and give the
+    program's path."""
+    library = os.path.join(directory, "libnorbelath.a")
+    program = os.path.join(directory, "support")
+    build_native("norbelath", "library", library)
+    command = [os.environ.get("CC", "cc"), "-std=c11", "-O2", "-I", INCLUDE,
+               os.path.join(HERE, "support.c"), library, "-o", program]
     try:
-        subprocess.run([NATIVE, "pair_lister", program], check=True)
+        subprocess.run(command, check=True)
     except (OSError, subprocess.CalledProcessError) as error:
-        raise Failed("the pair lister cannot be built: %s" % error) from error
-    machine = platform.machine()
-    how = "as rt links it" if machine == "x86_64" else "from the LLVM module that rt compiles for x86-64"
-    print("pair lister: built for %s, %s" % (machine, how))
+        raise Failed("the program of support.c cannot be built: %s" % error) from error
     return program
 
 
@@ -125,22 +159,30 @@ def trees_and_islands(output):
     return sum(map(int, sizes)), len(sizes)
 
 
+def trees_and_clades(output):
+    """Their numbers, from the first line; None if that is another line."""
+    first_line = re.match(rb"trees (\d+) clades (\d+)\n", output)
+    return (int(first_line[1]), int(first_line[2])) if first_line else None
+
+
 class Sheet(NamedTuple):
     """What the programs print."""
 
     option: Optional[str]  # the plain program's, the same as that of this script
+    build: Optional[Callable[[str], str]]  # builds our program in a directory
     others: Tuple[str, ...]  # the programs to compare with
     counted: str  # what is counted besides trees
     counts: Callable[[bytes], Optional[Tuple[int, int]]]
 
 
-PAIRS = Sheet(None, ("plain", "fast"), "pairs", trees_and_pairs)
-INTERCHANGES = Sheet("--interchanges", ("plain",), "pairs", trees_and_pairs)
-ISLANDS = Sheet("--islands", ("plain",), "islands", trees_and_islands)
+PAIRS = Sheet(None, build_pair_lister, ("plain", "fast"), "pairs", trees_and_pairs)
+INTERCHANGES = Sheet("--interchanges", None, ("plain",), "pairs", trees_and_pairs)
+ISLANDS = Sheet("--islands", None, ("plain",), "islands", trees_and_islands)
+SUPPORT = Sheet("--support", build_support, ("plain",), "clades", trees_and_clades)
 
 
 def size_of(path, sheet, output):
-    """The numbers of trees, leaves and pairs or islands."""
+    """The numbers of trees, leaves and pairs, islands or clades."""
     counts = sheet.counts(output)
     if not counts:
         raise Failed("%s is not accepted: %r" % (os.path.basename(path), output[:80]))
@@ -214,30 +256,68 @@ def rustc_version():
     return done.stdout.decode().strip()
 
 
+def start_times(commands, repeat, directory):
+    """What starting each program costs."""
+    empty = os.path.join(directory, "empty.txt")
+    with open(empty, "wb"):
+        pass
+    compared_output(commands, empty)
+    return best_times(commands, empty, repeat * EMPTY_REPEAT_FACTOR)
+
+
+def measure(commands, sheet, start, repeat, directory):
+    """Print the table and give the times of each input."""
+    print(headings(sheet))
+    times = {}
+    for name, path in inputs.write_inputs(os.path.join(directory, "inputs"), inputs.inputs()):
+        size = size_of(path, sheet, compared_output(commands, path))
+        whole = best_times(commands, path, repeat)
+        times[name] = [max(0.0, spent - begun) for spent, begun in zip(whole, start)]
+        print(row((name,) + size, columns_of(whole, times[name])), flush=True)
+    return times
+
+
+def call_milliseconds(program, path, repeat):
+    """The best time of one support call, as the program of support.c prints
+    it."""
+    printed = output_of([program, "--repeat", str(repeat)], path)
+    try:
+        return float(printed) / 1e3
+    except ValueError as error:
+        raise Failed("%s: no time of a call: %r" % (program, printed[:80])) from error
+
+
+def measure_support(commands, repeat, directory):
+    """Print the table of the support call, with whole times."""
+    columns = ("ours ms", "plain ms", "ours/plain", "call ms", "goal ms")
+    print(row(("input", "trees", "leaves", SUPPORT.counted), columns))
+    for name, path in inputs.write_inputs(os.path.join(directory, "inputs"), inputs.support_inputs()):
+        size = size_of(path, SUPPORT, compared_output(commands, path))
+        ours, plain = best_times(commands, path, repeat)
+        call = call_milliseconds(commands[0][0], path, repeat * CALL_REPEAT_FACTOR)
+        goal = "< %d" % SUPPORT_GOALS_MS[name] if name in SUPPORT_GOALS_MS else "-"
+        columns = ("%.2f" % ours, "%.2f" % plain, ratio_text(ours, plain), "%.2f" % call, goal)
+        print(row((name,) + size, columns), flush=True)
+
+
 def run(ours, sheet, repeat, drawn, directory):
     """Build, measure, print the table and draw the picture."""
     options = [sheet.option] if sheet.option else []
-    commands = [[ours or build_ours(directory)]]
+    commands = [[ours or sheet.build(directory)]]
     commands += [[build_rust(name)] + options for name in sheet.others]
     programs = ("ours",) + sheet.others
     print("CPU: %s, %d cores" % (cpu_model(), os.cpu_count() or 0))
     print(rustc_version())
 
-    empty = os.path.join(directory, "empty.txt")
-    with open(empty, "wb"):
-        pass
-    compared_output(commands, empty)
-    start = best_times(commands, empty, repeat * EMPTY_REPEAT_FACTOR)
+    start = start_times(commands, repeat, directory)
     named = ", ".join("%s %.2f ms" % pair for pair in zip(programs, start))
-    print("best of %d; process start (subtracted): %s\n" % (repeat, named))
+    what = "included" if sheet is SUPPORT else "subtracted"
+    print("best of %d; process start (%s): %s\n" % (repeat, what, named))
 
-    print(headings(sheet))
-    times = {}
-    for name, path in inputs.write_inputs(os.path.join(directory, "inputs")):
-        size = size_of(path, sheet, compared_output(commands, path))
-        whole = best_times(commands, path, repeat)
-        times[name] = [max(0.0, spent - begun) for spent, begun in zip(whole, start)]
-        print(row((name,) + size, columns_of(whole, times[name])), flush=True)
+    if sheet is SUPPORT:
+        measure_support(commands, repeat, directory)
+        return
+    times = measure(commands, sheet, start, repeat, directory)
     if drawn:
         write_picture(drawn, programs, times)
 
@@ -260,6 +340,8 @@ def main(arguments):
                         help="OUR_PROGRAM prints the graph of interchanges")
     others.add_argument("--islands", action="store_const", dest="sheet", const=ISLANDS,
                         help="OUR_PROGRAM prints a line for each island")
+    others.add_argument("--support", action="store_const", dest="sheet", const=SUPPORT,
+                        help="OUR_PROGRAM is that of support.c; built for this machine if left out")
     parser.set_defaults(sheet=PAIRS)
     parser.add_argument("--repeat", metavar="N", type=positive, default=DEFAULT_REPEAT)
     parser.add_argument("--picture", metavar="FILE", help="where to write the picture")
@@ -267,8 +349,10 @@ def main(arguments):
     program = options.program and os.path.abspath(options.program)
     if program and (not os.access(program, os.X_OK) or os.path.isdir(program)):
         parser.error("not an executable file: %s" % options.program)
-    if options.sheet.option and not program:
+    if not options.sheet.build and not program:
         parser.error("%s needs OUR_PROGRAM" % options.sheet.option)
+    if options.sheet is SUPPORT and options.picture:
+        parser.error("--support has no picture")
     try:
         with tempfile.TemporaryDirectory() as directory:
             run(program, options.sheet, options.repeat, options.picture, directory)

@@ -1,15 +1,15 @@
 /*
  * Norbelath: rooted binary trees as texts, and which of them are one prune and regraft apart.
  *
- * Nine calls over lent memory. They allocate nothing, keep nothing between calls and may be called from several
- * threads at once. On x86-64 the table call uses up to 120 KB of stack, the graph, interchange and islands calls up to
- * 340 KB, and the sheet call up to 420 KB. Any bytes may be given as a text: what is not as it should be is refused,
- * with the reason and the place.
+ * Ten calls over lent memory. They allocate nothing, keep nothing between calls and may be called from several
+ * threads at once. On x86-64 the table call uses up to 120 KB of stack, the support call up to 300 KB, the graph,
+ * interchange and islands calls up to 340 KB, and the sheet call up to 420 KB. Any bytes may be given as a text: what is
+ * not as it should be is refused, with the reason and the place.
  *
  * A text is a pointer and its length in bytes; it needs no byte 0 at its end. A lent slice is a pointer and its length in
  * elements. No pointer is NULL. The slices and numbers that a call may write overlap neither each other nor a text.
  *
- * The result is 0 where the call is accepted, and else the number of the refusal. Two lent numbers receive:
+ * The result is 0 where the call is accepted, and else the number of the refusal. The lent numbers receive:
  *
  *                   *first                       *second
  *   form, cut,      bytes written                0
@@ -20,8 +20,11 @@
  *   choosing,
  *   interchanges,
  *   islands
+ *   support         clades                       bytes written
  *   refused         which text: 0, or 1 for      the place: an offset in that text,
  *                   the pair call's other        its length where it ends too soon
+ *
+ * The support call has a third number, *third: the trees, and 0 where it is refused.
  *
  * An accepted call writes from the start of each lent slice on and changes nothing behind what it writes. A refusal
  * changes no lent slice.
@@ -58,6 +61,9 @@ extern "C" {
 #define NORBELATH_GRAPH_COUNTS 160
 #define NORBELATH_GRAPH_FIRSTS 160
 #define NORBELATH_ISLANDS 160
+#define NORBELATH_SUPPORT_CLADES 9921
+#define NORBELATH_SUPPORT_TREES 9921
+#define NORBELATH_SUPPORT_OUT 309
 #define NORBELATH_SHEET_OUT 220902
 
 /* The choices of the graph choosing call. Any number but 0 keeps copies apart. */
@@ -146,6 +152,20 @@ uint8_t norbelath_islands(const uint8_t *text, size_t text_len,
                           uint16_t *firsts, size_t firsts_len,
                           uint16_t *islands, size_t islands_len,
                           uint64_t *first, uint64_t *second);
+
+/*
+ * Support call: every clade of two or more labels of the trees of a text, once, and in how many trees each occurs, copies
+ * counted. clades[k] has bit L - 1 set for each label L of the clade, and trees[k] is the number of trees. Clades of more
+ * trees come first; of as many, the labels are compared from the smallest on, and a clade whose labels end first is the
+ * lesser: {1,2}, {1,2,3}, {1,3}, {2,3}. out receives the text of the majority tree, `;` included: its clades are those of
+ * more than half of the trees, each label alone and all labels, and a node of it may have more than two children, which
+ * stand in the order of their smallest labels. A text without trees has no clades and no bytes.
+ */
+uint8_t norbelath_support(const uint8_t *text, size_t text_len,
+                          uint64_t *clades, size_t clades_len,
+                          uint16_t *trees, size_t trees_len,
+                          uint8_t *out, size_t out_len,
+                          uint64_t *first, uint64_t *second, uint64_t *third);
 
 /*
  * Sheet call: what the pair lister prints for a text. A text that is refused has its sheet too, the line `refused N at P`:

@@ -1,5 +1,6 @@
 /* Calls each function of the library and compares with known answers. The exit status is 1 if one differs. */
 #include <stdio.h>
+#include <stdlib.h>
 #include <string.h>
 
 #include "norbelath.h"
@@ -239,6 +240,123 @@ static void listed(struct lister l, struct sample t, const uint16_t *expected, s
     listed_in(more, l, t, expected, number_of_pairs, neighbours);
 }
 
+/* The slices of the support call, each with one element more than is asked for. */
+static uint64_t clades[NORBELATH_SUPPORT_CLADES + 1];
+static uint16_t trees_with[NORBELATH_SUPPORT_TREES + 1];
+static uint8_t majority[NORBELATH_SUPPORT_OUT + 1];
+
+/* How much is lent to the support call. */
+struct support_lent {
+    size_t clades, trees, out;
+};
+
+static const struct support_lent support_enough = {NORBELATH_SUPPORT_CLADES, NORBELATH_SUPPORT_TREES,
+                                                   NORBELATH_SUPPORT_OUT};
+static const struct support_lent support_more = {NORBELATH_SUPPORT_CLADES + 1, NORBELATH_SUPPORT_TREES + 1,
+                                                 NORBELATH_SUPPORT_OUT + 1};
+
+static struct reply support(const char *text, size_t text_len, struct support_lent lent, uint64_t *third)
+{
+    struct reply r = {99, 99, 99};
+    *third = 99;
+    memset(clades, UNTOUCHED, sizeof clades);
+    memset(trees_with, UNTOUCHED, sizeof trees_with);
+    memset(majority, UNTOUCHED, sizeof majority);
+    r.result = norbelath_support((const uint8_t *)text, text_len, clades, lent.clades, trees_with, lent.trees,
+                                 majority, lent.out, &r.first, &r.second, third);
+    return r;
+}
+
+/* So many clades and bytes are written, and what is behind them is as before. */
+static int support_ends(size_t number_of_clades, size_t bytes)
+{
+    return untouched(clades, number_of_clades * sizeof clades[0], sizeof clades) &&
+           untouched(trees_with, number_of_clades * sizeof trees_with[0], sizeof trees_with) &&
+           untouched(majority, bytes, sizeof majority);
+}
+
+static void support_refused(const char *text, size_t text_len, struct support_lent lent, uint8_t number,
+                            uint64_t place)
+{
+    uint64_t third;
+    struct reply r = support(text, text_len, lent, &third);
+    check(same(r, number, 0, place), "support", text, "another refusal was expected");
+    check(third == 0, "support", text, "the third number of a refusal is not 0");
+    check(support_ends(0, 0), "support", text, "a refusal changed a slice");
+}
+
+#define BIT(label) (UINT64_C(1) << ((label)-1))
+
+/* A clade, a bit for each label, and the number of trees that have it. */
+struct clade {
+    uint64_t labels;
+    uint16_t trees;
+};
+
+/* The labels from the smallest on. The list ends in zeros, so that one which ends first is the lesser. */
+static void list_labels(uint64_t labels, uint8_t list[65])
+{
+    size_t at = 0;
+    memset(list, 0, 65);
+    for (uint8_t label = 1; label <= 64; label++) {
+        if (labels & BIT(label)) {
+            list[at++] = label;
+        }
+    }
+}
+
+static int compare_labels(uint64_t one, uint64_t other)
+{
+    uint8_t list[65], other_list[65];
+    list_labels(one, list);
+    list_labels(other, other_list);
+    return memcmp(list, other_list, sizeof list);
+}
+
+/* More trees first, and as many in ascending order of labels; so no clade stands twice. */
+static int in_order(size_t number_of_clades)
+{
+    for (size_t k = 1; k < number_of_clades; k++) {
+        if (trees_with[k - 1] < trees_with[k] ||
+            (trees_with[k - 1] == trees_with[k] && compare_labels(clades[k - 1], clades[k]) >= 0)) {
+            return 0;
+        }
+    }
+    return 1;
+}
+
+static int are_clades(const struct clade *expected, size_t number_of_clades)
+{
+    for (size_t k = 0; k < number_of_clades; k++) {
+        if (clades[k] != expected[k].labels || trees_with[k] != expected[k].trees) {
+            return 0;
+        }
+    }
+    return 1;
+}
+
+static void supports_in(struct support_lent lent, const char *text, size_t trees, const struct clade *expected,
+                        size_t number_of_clades, const char *tree)
+{
+    const size_t bytes = strlen(tree);
+    uint64_t third;
+    struct reply r = support(text, strlen(text), lent, &third);
+    check(same(r, NORBELATH_ACCEPTED, number_of_clades, bytes), "support", text, "another answer was expected");
+    check(third == trees, "support", text, "another number of trees was expected");
+    check(are_clades(expected, number_of_clades), "support", text, "other clades were expected");
+    check(in_order(number_of_clades), "support", text, "another order was expected");
+    check(memcmp(majority, tree, bytes) == 0, "support", text, "another majority tree was expected");
+    check(support_ends(number_of_clades, bytes), "support", text, "a slice was changed behind what was written");
+}
+
+/* So many trees, their clades in the order of the call, and the text of their majority tree. */
+static void supports(const char *text, size_t trees, const struct clade *expected, size_t number_of_clades,
+                     const char *tree)
+{
+    supports_in(support_enough, text, trees, expected, number_of_clades, tree);
+    supports_in(support_more, text, trees, expected, number_of_clades, tree);
+}
+
 /* One byte more than the sheet call asks for. */
 static uint8_t printed[NORBELATH_SHEET_OUT + 1];
 
@@ -266,17 +384,29 @@ static void forms(void)
     form("(1,2);", enough - 1, NULL, NORBELATH_SHORT_SLICE, 0);
 }
 
+/* The label that follows so many steps behind this one, going round 1 to 64 by so many at a step. */
+static unsigned label_behind(unsigned label, unsigned by, unsigned steps)
+{
+    return 1 + (label - 1 + steps * by) % 64;
+}
+
+/* Writes a comb of so many labels, from this one on and a step behind each other. Gives its end. */
+static char *write_comb(char *at, unsigned label, unsigned by, unsigned leaves)
+{
+    memset(at, '(', leaves - 1);
+    at += leaves - 1;
+    at += sprintf(at, "%u", label);
+    for (unsigned steps = 1; steps < leaves; steps++) {
+        at += sprintf(at, ",%u)", label_behind(label, by, steps));
+    }
+    return at;
+}
+
 /* The deepest tree is also the longest text; one bracket more is refused. */
 static void deepest_form(void)
 {
     char deepest[NORBELATH_FORM_OUT + 1] = "";
-    size_t at = 63;
-    memset(deepest, '(', at);
-    deepest[at++] = '1';
-    for (int label = 2; label <= 64; label++) {
-        at += (size_t)snprintf(deepest + at, sizeof deepest - at, ",%d)", label);
-    }
-    deepest[at++] = ';';
+    strcpy(write_comb(deepest, 1, 1, 64), ";");
     check(strlen(deepest) == NORBELATH_FORM_OUT, "form", deepest, "the text has another length");
     form(deepest, NORBELATH_FORM_OUT, deepest, 0, 0);
 
@@ -464,6 +594,208 @@ static void lists(void)
     }
 }
 
+/* No trees, one leaf and one fork. A label alone is not listed. */
+static void smallest_supports(void)
+{
+    const struct clade none[] = {{0, 0}};
+    supports("", 0, none, 0, "");
+    supports(" \t\r\n", 0, none, 0, "");
+    supports(" 7 ;", 1, none, 0, "7;");
+    supports("64;064;", 2, none, 0, "64;");
+    supports("(64,1);", 1, (const struct clade[]){{BIT(1) | BIT(64), 1}}, 1, "(1,64);");
+}
+
+/* More trees first, then the smaller labels, which is not the order of the numbers. */
+static void orders_of_clades(void)
+{
+    supports("(3,(2,1));", 1, (const struct clade[]){{BIT(1) | BIT(2), 1}, {BIT(1) | BIT(2) | BIT(3), 1}}, 2,
+             "((1,2),3);");
+    supports("((3,2),1);", 1, (const struct clade[]){{BIT(1) | BIT(2) | BIT(3), 1}, {BIT(2) | BIT(3), 1}}, 2,
+             "(1,(2,3));");
+    supports("((64,1),(2,3));", 1,
+             (const struct clade[]){{BIT(1) | BIT(2) | BIT(3) | BIT(64), 1}, {BIT(1) | BIT(64), 1},
+                                    {BIT(2) | BIT(3), 1}},
+             3, "((1,64),(2,3));");
+    supports("(((1,2),3),4);((1,3),(2,4));(((2,3),4),1);", 3,
+             (const struct clade[]){{BIT(1) | BIT(2) | BIT(3) | BIT(4), 3},
+                                    {BIT(1) | BIT(2), 1},
+                                    {BIT(1) | BIT(2) | BIT(3), 1},
+                                    {BIT(1) | BIT(3), 1},
+                                    {BIT(2) | BIT(3), 1},
+                                    {BIT(2) | BIT(3) | BIT(4), 1},
+                                    {BIT(2) | BIT(4), 1}},
+             7, "(1,2,3,4);");
+    supports("(((3,4),2),1);(((3,4),1),2);((1,2),(3,4));", 3,
+             (const struct clade[]){{BIT(1) | BIT(2) | BIT(3) | BIT(4), 3},
+                                    {BIT(3) | BIT(4), 3},
+                                    {BIT(1) | BIT(2), 1},
+                                    {BIT(1) | BIT(3) | BIT(4), 1},
+                                    {BIT(2) | BIT(3) | BIT(4), 1}},
+             5, "(1,2,(3,4));");
+}
+
+/* The clades of more than half of the trees, copies counted; half is not enough. */
+static void majorities(void)
+{
+    const uint64_t all = BIT(1) | BIT(2) | BIT(3);
+    supports("((1,2),3);((1,3),2);", 2,
+             (const struct clade[]){{all, 2}, {BIT(1) | BIT(2), 1}, {BIT(1) | BIT(3), 1}}, 3, "(1,2,3);");
+    supports("((1,3),2);((1,2),3);(3,(2,1));", 3,
+             (const struct clade[]){{all, 3}, {BIT(1) | BIT(2), 2}, {BIT(1) | BIT(3), 1}}, 3, "((1,2),3);");
+    supports("((1,3),2);((1,2),3);(3,(2,1));(2,(1,3));", 4,
+             (const struct clade[]){{all, 4}, {BIT(1) | BIT(2), 2}, {BIT(1) | BIT(3), 2}}, 3, "(1,2,3);");
+    supports("((1,3),2);((1,2),3);(3,(2,1));((2,3),1);", 4,
+             (const struct clade[]){{all, 4}, {BIT(1) | BIT(2), 2}, {BIT(1) | BIT(3), 1}, {BIT(2) | BIT(3), 1}}, 4,
+             "(1,2,3);");
+}
+
+/* Nodes of three and four children, alone and beside others. Children stand by smallest label: 2 before 10. */
+static void majority_texts(void)
+{
+    const uint64_t five = BIT(1) | BIT(2) | BIT(3) | BIT(4) | BIT(5);
+    supports("(((1,2),3),(4,5));((5,4),((1,3),2));", 2,
+             (const struct clade[]){{BIT(1) | BIT(2) | BIT(3), 2},
+                                    {five, 2},
+                                    {BIT(4) | BIT(5), 2},
+                                    {BIT(1) | BIT(2), 1},
+                                    {BIT(1) | BIT(3), 1}},
+             5, "((1,2,3),(4,5));");
+    supports("((((2,3),1),5),4);((((2,3),5),1),4);", 2,
+             (const struct clade[]){{five, 2},
+                                    {BIT(1) | BIT(2) | BIT(3) | BIT(5), 2},
+                                    {BIT(2) | BIT(3), 2},
+                                    {BIT(1) | BIT(2) | BIT(3), 1},
+                                    {BIT(2) | BIT(3) | BIT(5), 1}},
+             5, "((1,(2,3),5),4);");
+    supports("((30,2),10);((10,30),2);((2,10),30);", 3,
+             (const struct clade[]){{BIT(2) | BIT(10) | BIT(30), 3},
+                                    {BIT(2) | BIT(10), 1},
+                                    {BIT(2) | BIT(30), 1},
+                                    {BIT(10) | BIT(30), 1}},
+             4, "(2,10,30);");
+    supports("(10,(30,2));", 1, (const struct clade[]){{BIT(2) | BIT(10) | BIT(30), 1}, {BIT(2) | BIT(30), 1}}, 2,
+             "((2,30),10);");
+    supports("((9,10),(20,2));(((10,9),2),20);", 2,
+             (const struct clade[]){{BIT(2) | BIT(9) | BIT(10) | BIT(20), 2},
+                                    {BIT(9) | BIT(10), 2},
+                                    {BIT(2) | BIT(9) | BIT(10), 1},
+                                    {BIT(2) | BIT(20), 1}},
+             4, "(2,(9,10),20);");
+}
+
+/* 160 trees of three leaves, so many of them with 1 and 2 together, the others with 1 and 3. */
+static void shares_of_160(uint16_t with_2, const struct clade *expected, const char *tree)
+{
+    static char text[NORBELATH_MAX_TREES * 10 + 1];
+    for (size_t i = 0; i < NORBELATH_MAX_TREES; i++) {
+        strcpy(text + i * 10, i < with_2 ? "((1,2),3);" : "(2,(3,1));");
+    }
+    supports(text, NORBELATH_MAX_TREES, expected, 3, tree);
+}
+
+static void majorities_of_160(void)
+{
+    const uint64_t all = BIT(1) | BIT(2) | BIT(3), with_2 = BIT(1) | BIT(2), with_3 = BIT(1) | BIT(3);
+    shares_of_160(79, (const struct clade[]){{all, 160}, {with_3, 81}, {with_2, 79}}, "((1,3),2);");
+    shares_of_160(80, (const struct clade[]){{all, 160}, {with_2, 80}, {with_3, 80}}, "(1,2,3);");
+    shares_of_160(81, (const struct clade[]){{all, 160}, {with_2, 81}, {with_3, 79}}, "((1,2),3);");
+}
+
+/* Lists the clades of a comb, which so many trees have. Gives the end of the list. */
+static struct clade *list_comb(struct clade *at, unsigned label, unsigned by, unsigned leaves, uint16_t trees)
+{
+    uint64_t labels = BIT(label);
+    for (unsigned steps = 1; steps < leaves; steps++) {
+        labels |= BIT(label_behind(label, by, steps));
+        *at++ = (struct clade){labels, trees};
+    }
+    return at;
+}
+
+/* 160 times the deepest tree, which is then the majority tree and fills its slice. */
+static void deepest_majority(void)
+{
+    static char text[NORBELATH_MAX_TREES * NORBELATH_FORM_OUT + 1];
+    char deepest[NORBELATH_FORM_OUT + 1];
+    struct clade expected[63];
+    strcpy(write_comb(deepest, 1, 1, 64), ";");
+    list_comb(expected, 1, 1, 64, NORBELATH_MAX_TREES);
+    for (size_t i = 0; i < NORBELATH_MAX_TREES; i++) {
+        memcpy(text + i * NORBELATH_FORM_OUT, deepest, sizeof deepest);
+    }
+    check(strlen(deepest) == NORBELATH_SUPPORT_OUT, "support", deepest, "the text has another length");
+    supports(text, NORBELATH_MAX_TREES, expected, 63, deepest);
+}
+
+static int by_labels(const void *one, const void *other)
+{
+    return compare_labels(((const struct clade *)one)->labels, ((const struct clade *)other)->labels);
+}
+
+/*
+ * As many clades as a table can have: 160 trees of 64 leaves that share none but the whole. Each is two combs of 32
+ * leaves, and the labels of a comb go round 1 to 64 by an odd number below 32: its first 2 to 32 labels are then those
+ * of no comb with another start or number. The majority tree has all labels side by side.
+ */
+static void most_clades(void)
+{
+    static char text[NORBELATH_MAX_TREES * NORBELATH_FORM_OUT + 1];
+    static struct clade expected[NORBELATH_SUPPORT_CLADES];
+    const unsigned half = 32;
+    char star[NORBELATH_SUPPORT_OUT + 1] = "(1", *at = text;
+    struct clade *next = expected;
+    *next++ = (struct clade){UINT64_MAX, NORBELATH_MAX_TREES};
+    for (unsigned i = 0; i < NORBELATH_MAX_TREES; i++) {
+        const unsigned label = 1 + i % half, by = 1 + 2 * (i / half), other = label_behind(label, by, half);
+        *at++ = '(';
+        at = write_comb(at, label, by, half);
+        *at++ = ',';
+        at = write_comb(at, other, by, half);
+        *at++ = ')';
+        *at++ = ';';
+        next = list_comb(next, label, by, half, 1);
+        next = list_comb(next, other, by, half, 1);
+    }
+    *at = '\0';
+    check(next == expected + NORBELATH_SUPPORT_CLADES, "support", text, "there are not 9,921 clades");
+    qsort(expected + 1, NORBELATH_SUPPORT_CLADES - 1, sizeof expected[0], by_labels);
+
+    at = star + 2;
+    for (unsigned label = 2; label <= 64; label++) {
+        at += sprintf(at, ",%u", label);
+    }
+    strcpy(at, ");");
+    supports(text, NORBELATH_MAX_TREES, expected, NORBELATH_SUPPORT_CLADES, star);
+}
+
+/* Each slice one element too short, and then all of them empty: refused before anything in the text. */
+static void short_supports(const char *text, size_t text_len)
+{
+    struct support_lent lent = support_enough;
+    lent.clades--;
+    support_refused(text, text_len, lent, NORBELATH_SHORT_SLICE, 0);
+    lent = support_enough;
+    lent.trees--;
+    support_refused(text, text_len, lent, NORBELATH_SHORT_SLICE, 0);
+    lent = support_enough;
+    lent.out--;
+    support_refused(text, text_len, lent, NORBELATH_SHORT_SLICE, 0);
+    support_refused(text, text_len, (struct support_lent){0, 0, 0}, NORBELATH_SHORT_SLICE, 0);
+}
+
+static void refused_supports(void)
+{
+    support_refused("(1,2", 4, support_enough, NORBELATH_WRONG_BYTE, 4);
+    support_refused("(1,2,3);", 8, support_enough, NORBELATH_WRONG_BYTE, 4);
+    support_refused("(1,2);(1,65);", 13, support_enough, NORBELATH_BAD_LABEL, 9);
+    support_refused("(1,2);(2,2);", 12, support_enough, NORBELATH_LABEL_AGAIN, 9);
+    support_refused("(1,2);(1,3);", 12, support_enough, NORBELATH_LABELS_DIFFER, 11);
+    support_refused("(1,2);(1,3);x", 13, support_more, NORBELATH_LABELS_DIFFER, 11);
+    short_supports("(1,2);(1,2);", 12);
+    short_supports("(1,2", 4);
+    short_supports("", 0);
+}
+
 /* What the pair lister prints, of a table and of a text that is refused; line 7 is the only refusal. */
 static void sheets(void)
 {
@@ -493,11 +825,22 @@ static void list_limits(struct lister l, const char *text, size_t full, size_t s
     list_refused(l, text, full + size, enough, NORBELATH_TOO_MANY_TREES, full);
 }
 
+/* The same for the support call: the copies have one clade, and the majority tree is one more copy. */
+static void support_limits(const char *text, size_t full, size_t size)
+{
+    uint64_t third;
+    struct reply r = support(text, full, support_enough, &third);
+    check(same(r, NORBELATH_ACCEPTED, 1, size) && third == NORBELATH_MAX_TREES, "support", text,
+          "160 trees were expected");
+    support_refused(text, full + size, support_enough, NORBELATH_TOO_MANY_TREES, full);
+}
+
 /* 160 trees are accepted and a 161st is refused; so is a text of one byte too many, whatever it holds. */
 static void limits(void)
 {
     static char text[NORBELATH_MAX_TEXT + 1];
     const size_t size = 6;
+    uint64_t third;
     for (size_t i = 0; i <= NORBELATH_MAX_TREES; i++) {
         memcpy(text + i * size, "(1,2);", size);
     }
@@ -508,8 +851,13 @@ static void limits(void)
     for (size_t i = 0; i < LISTERS; i++) {
         list_limits(listers[i], text, full, size);
     }
+    support_limits(text, full, size);
     sheet(text, full + size, NORBELATH_SHEET_OUT, "refused 6 at 960\n");
 
+    memset(text, 'x', sizeof text);
+    support_refused(text, NORBELATH_MAX_TEXT, support_enough, NORBELATH_WRONG_BYTE, 0);
+    support_refused(text, sizeof text, support_enough, NORBELATH_LONG_TEXT, 0);
+    short_supports(text, sizeof text);
     memset(text, ' ', sizeof text);
     r = table(text, NORBELATH_MAX_TEXT, NORBELATH_TABLE_TEXTS, NORBELATH_TABLE_ENDS);
     check(same(r, NORBELATH_ACCEPTED, 0, 0), "table", "blanks", "no trees were expected");
@@ -518,6 +866,10 @@ static void limits(void)
         list_refused(listers[i], text, sizeof text, enough, NORBELATH_LONG_TEXT, 0);
         short_lists(listers[i], text, sizeof text);
     }
+    r = support(text, NORBELATH_MAX_TEXT, support_enough, &third);
+    check(same(r, NORBELATH_ACCEPTED, 0, 0) && third == 0, "support", "blanks", "no trees were expected");
+    support_refused(text, sizeof text, support_enough, NORBELATH_LONG_TEXT, 0);
+    short_supports(text, sizeof text);
     sheet(text, NORBELATH_MAX_TEXT, NORBELATH_SHEET_OUT, "trees 0 pairs 0\n");
     sheet(text, sizeof text, NORBELATH_SHEET_OUT, "refused 8 at 0\n");
     sheet(text, sizeof text, NORBELATH_SHEET_OUT - 1, NULL);
@@ -532,6 +884,14 @@ int main(void)
     tables();
     lists();
     every_choice();
+    smallest_supports();
+    orders_of_clades();
+    majorities();
+    majority_texts();
+    majorities_of_160();
+    deepest_majority();
+    most_clades();
+    refused_supports();
     sheets();
     limits();
     printf("C: %d checks, %d failed\n", checks, failures);

@@ -1,12 +1,13 @@
 #!/usr/bin/env python3
 """Compare a pair lister with reference.py on generated cases.
 
-    compare.py PROGRAM [--interchanges | --graphs | --islands] [--seed S] [--count N]
+    compare.py PROGRAM [--interchanges | --graphs | --support | --islands] [--seed S] [--count N]
 
 PROGRAM is the path of an executable that reads a table of trees from standard
 input and writes the sheet to standard output; with --interchanges it is the
 program of interchanges.c, and the sheet is that of the interchange call; with
 --graphs that of graphs.c, and the sheet is that of both graph calls; with
+--support that of supports.c, and the sheet is that of the support call; with
 --islands it is the program of islands, and the sheet has a line for each.  It
 is run once for each case of generate.py, and its output must be the reference's
 sheet, byte for byte.  A program that is ended by a signal, or runs longer than
@@ -17,16 +18,19 @@ without trees, the status has to be 0 and standard error empty too: a program
 that could not read its input leaves its output empty as well.
 
 The exit status is 1 if there was a mismatch, or if one of the refusal numbers
-1, 2, 3, 4, 5, 6 and 8 never came up, so that the comparison says less than it
-seems to; otherwise 0.  A case can be looked at again by writing the same cases
-to files: `generate.py S N OUTDIR`.
+1, 2, 3, 4, 5, 6 and 8 never came up, or, with --support, if there were too few
+tables of a sort that this call can go wrong on, so that the comparison says less
+than it seems to; otherwise 0.  A case can be looked at again by writing the same
+cases to files: `generate.py S N OUTDIR`, for this call `generate.py --support S
+N OUTDIR`.
 """
 
 import argparse
+import ast
 import os
 import subprocess
 import sys
-from typing import NamedTuple
+from typing import Callable, NamedTuple
 
 import generate
 import reference
@@ -37,6 +41,42 @@ MISMATCHES_SHOWN = 5
 BYTES_SHOWN = 700
 SECONDS_PER_CASE = 60
 
+# The sorts of tables that the comparison in the support call needs, and how many
+# of each in two thousand cases: about half of what the generator makes.  One is
+# needed among however few cases.
+SUPPORT_FLOORS = {
+    "no trees": 10,
+    "one leaf": 25,
+    "copies only": 75,
+    "copies beside others": 330,
+    # 160 trees of 64 leaves; they have 9,921 clades at most.
+    "full": 15,
+    "full of copies": 1,
+    "full of halves": 1,
+    "9,921 clades": 1,
+    # Not full: 300 clades or more.
+    "many clades": 10,
+    # A clade in exactly half of more than two trees, of 20 or more; in half a
+    # tree or one tree more than half, and not in all.
+    "half": 120,
+    "half of many": 20,
+    "just above half": 200,
+    # A clade in as many trees as the next, which has the smaller number, or
+    # fewer labels, or the same labels and behind them others.
+    "tie against numbers": 450,
+    "tie against sizes": 450,
+    "tie by the end": 350,
+    # The majority tree: with three or more children at a fork, at one below the
+    # root, at the only one, at none though topologies differ; with children
+    # that would stand in another order by digits; of the longest text.
+    "wide": 350,
+    "wide below the root": 100,
+    "star": 150,
+    "binary": 150,
+    "against digits": 250,
+    "309 bytes": 10,
+}
+
 
 class Run(NamedTuple):
     """What one run of the program gave; the status is None after a time-out."""
@@ -44,6 +84,17 @@ class Run(NamedTuple):
     output: bytes
     errors: bytes
     status: int
+
+
+class Subject(NamedTuple):
+    """What a program is compared in: the reference's function of the same
+    output; the cases; the sorts that an accepted table is of, given its text and
+    sheet; and how many of each sort there have to be in two thousand cases."""
+
+    sheet: Callable
+    cases: Callable = generate.cases
+    sorts: Callable = lambda text, expected: ()
+    floors: dict = {}
 
 
 def run_program(program, text):
@@ -116,24 +167,80 @@ def refusal_number(expected):
     return int(expected.split()[1]) if expected.startswith(b"refused ") else None
 
 
-def compare(program, sheet, seed, count):
-    """Run all cases.  Gives the number of mismatches and refusal counts.
+def support_sorts(text, expected):
+    """The sorts of SUPPORT_FLOORS that an accepted table is of, as a list."""
+    head, *lines, last = (line.split() for line in expected.splitlines())
+    trees = int(head[1])
+    if trees == 0:
+        return ["no trees"]
+    clades = [(int(words[1]), int(words[3])) for words in lines]
+    ties = [(one, other) for (one, number), (other, as_often) in zip(clades, clades[1:]) if number == as_often]
+    texts = reference.table(text).texts
+    leaves = texts[0].count(b",") + 1
+    topologies = len(set(texts))
+    # The text of a tree without its `;` is a number or a tuple in Python too.
+    forks = forks_of(ast.literal_eval(last[1].decode().rstrip(";")))
+    wide = [len(children) > 2 for children in forks]
+    full = trees == 160 and leaves == 64
+    half = any(2 * number == trees for _, number in clades)
+    holds = {
+        "one leaf": leaves == 1,
+        "copies only": topologies == 1 < trees,
+        "copies beside others": 1 < topologies < trees,
+        "full": full,
+        "full of copies": full and topologies == 1,
+        "full of halves": full and half,
+        "9,921 clades": len(clades) == 9921,
+        "many clades": len(clades) >= 300 and not full,
+        "half": half and trees > 2,
+        "half of many": half and trees >= 20 and not full,
+        "just above half": any(0 < 2 * number - trees <= 2 and number < trees for _, number in clades),
+        "tie against numbers": any(one > other for one, other in ties),
+        "tie against sizes": any(bin(one).count("1") > bin(other).count("1") for one, other in ties),
+        "tie by the end": any(other % 2 ** one.bit_length() == one for one, other in ties),
+        "wide": any(wide),
+        "wide below the root": any(wide[1:]),
+        "star": wide == [True],
+        "binary": topologies > 1 and not any(wide),
+        "against digits": any(children != sorted(children, key=str) for children in forks),
+        "309 bytes": len(last[1]) == 309,
+    }
+    return [sort for sort in holds if holds[sort]]
 
-    `sheet` is the reference's function of the same output.
-    """
+
+def forks_of(node):
+    """For each fork of nested tuples, the root first, the first label of each of
+    its children, as a list."""
+    if not isinstance(node, tuple):
+        return []
+    return [list(map(first_label, node))] + [fork for child in node for fork in forks_of(child)]
+
+
+def first_label(node):
+    """The label that stands first in nested tuples."""
+    return first_label(node[0]) if isinstance(node, tuple) else node
+
+
+def compare(program, subject, seed, count):
+    """Run all cases.  Gives the number of mismatches, refusal counts, and how
+    many accepted tables there were of each sort."""
     seen = dict.fromkeys(REFUSALS_OF_THE_LISTER, 0)
+    tables = dict.fromkeys(subject.floors, 0)
     mismatches = 0
-    for position, kind, text in generate.cases(seed, count):
-        expected = sheet(text)
+    for position, kind, text in subject.cases(seed, count):
+        expected = subject.sheet(text)
         number = refusal_number(expected)
         if number is not None:
             seen[number] += 1
+        else:
+            for sort in subject.sorts(text, expected):
+                tables[sort] += 1
         run = run_program(program, text)
         if not agrees(run, expected):
             mismatches += 1
             if mismatches <= MISMATCHES_SHOWN:
                 show_mismatch(generate.file_name(position, kind), text, expected, run)
-    return mismatches, seen
+    return mismatches, seen, tables
 
 
 def main(arguments):
@@ -141,28 +248,37 @@ def main(arguments):
     parser = argparse.ArgumentParser(description="Compare a pair lister with the reference program.")
     parser.add_argument("program", help="path of the pair lister")
     others = parser.add_mutually_exclusive_group()
-    others.add_argument("--interchanges", action="store_const", dest="sheet", const=reference.interchange_sheet,
-                        help="the program is that of interchanges.c")
-    others.add_argument("--graphs", action="store_const", dest="sheet", const=reference.graphs_sheet,
+    others.add_argument("--interchanges", action="store_const", dest="subject",
+                        const=Subject(reference.interchange_sheet), help="the program is that of interchanges.c")
+    others.add_argument("--graphs", action="store_const", dest="subject", const=Subject(reference.graphs_sheet),
                         help="the program is that of graphs.c")
-    others.add_argument("--islands", action="store_const", dest="sheet", const=reference.island_sheet,
+    others.add_argument("--support", action="store_const", dest="subject",
+                        const=Subject(reference.support_sheet, generate.support_cases, support_sorts, SUPPORT_FLOORS),
+                        help="the program is that of supports.c")
+    others.add_argument("--islands", action="store_const", dest="subject", const=Subject(reference.island_sheet),
                         help="the program is that of islands")
-    parser.set_defaults(sheet=reference.sheet)
+    parser.set_defaults(subject=Subject(reference.sheet))
     parser.add_argument("--seed", type=int, default=1)
     parser.add_argument("--count", type=int, default=DEFAULT_COUNT)
     options = parser.parse_args(arguments)
     program = os.path.abspath(options.program)
     if not os.access(program, os.X_OK) or os.path.isdir(program):
         parser.error("not an executable file: %s" % options.program)
-    mismatches, seen = compare(program, options.sheet, options.seed, options.count)
+    subject = options.subject
+    mismatches, seen, tables = compare(program, subject, options.seed, options.count)
     missing = [number for number in seen if seen[number] == 0]
     if missing:
         print("never seen: refusal %s" % ", ".join(map(str, missing)))
+    rare = [sort for sort in tables if tables[sort] < max(1, subject.floors[sort] * options.count // 2000)]
+    if rare:
+        print("seen too seldom: %s" % ", ".join(rare))
+    if tables:
+        print("tables seen: %s" % ", ".join("%s: %d" % item for item in tables.items()))
     print("%d cases, %d mismatches; refusals seen: %s" % (
         options.count, mismatches,
         " ".join("%d:%d" % item for item in seen.items()),
     ))
-    return 1 if mismatches or missing else 0
+    return 1 if mismatches or missing or rare else 0
 
 
 if __name__ == "__main__":

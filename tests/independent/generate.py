@@ -1,8 +1,8 @@
 #!/usr/bin/env python3
-"""Test inputs for the pair lister, and for the programs of interchanges and of
-islands.
+"""Test inputs for the pair lister, and for the programs of interchanges, of
+islands and of support.
 
-    generate.py SEED COUNT OUTDIR
+    generate.py [--support] SEED COUNT OUTDIR
 
 writes COUNT files into OUTDIR, each one standard input for these programs.
 The same seed gives the same files, and a case depends on the seed and its own
@@ -12,7 +12,9 @@ the position and the kind of the case: `00017-one-move-apart.txt`.
 The first cases are the fixed ones (the same for every seed): the samples of
 document 01, all trees of up to five leaves, copies in different places, the
 limits and their neighbours, and a text for each way a refusal can come about.
-All others are drawn at random.
+All others are drawn at random.  With --support there are further fixed cases
+and further kinds, among them full tables of the largest trees, on which the
+moves of all trees would take too long.
 
 Trees are nested tuples here: a leaf is its label, a fork is (first, second).
 A node is named by its path from the root, a tuple of 0 and 1.  Nothing is
@@ -20,6 +22,7 @@ taken over from reference.py, so that moves made here also test the moves
 listed there.
 """
 
+import argparse
 import itertools
 import os
 import random
@@ -475,6 +478,139 @@ def usual_table(rng):
             return trees
 
 
+# Random accepted tables for support
+
+
+def halves_table(rng):
+    """Copies of two trees, mixed: as many of one as of the other, or one or two
+    more.  Most often the trees share clades."""
+    labels = random_labels(rng, rng.randint(3, 12))
+    one = random_tree(rng, labels)
+    other = changing_move(rng, one) if rng.random() < 0.8 else random_tree(rng, labels)
+    fewer = rng.choice((1, 1, 2, 3, rng.randint(4, 20), 79, 80))
+    more = min(fewer + rng.choice((0, 0, 1, 2)), MOST_TREES - fewer)
+    return copied(rng, [(one, more), (other, fewer)])
+
+
+def copied(rng, times):
+    """So many copies of each tree, mixed, with children swapped."""
+    trees = [swapped(rng, tree) for tree, number in times for _ in range(number)]
+    rng.shuffle(trees)
+    return trees
+
+
+def near_copies_table(rng):
+    """Trees up to three moves away from one tree."""
+    tree = random_tree(rng, random_labels(rng, rng.choice((4, 5, 6, 8, 10, 16, 30))))
+    return near_copies(rng, tree, rng.randint(2, 20))
+
+
+def near_copies(rng, tree, count):
+    """So many trees, each none to three moves away from the given one."""
+    trees = []
+    for _ in range(count):
+        moved = tree
+        for _ in range(rng.randint(0, 3)):
+            moved = random_move(rng, moved)
+        trees.append(swapped(rng, moved))
+    return trees
+
+
+def star_table(rng):
+    """All topologies of three to five leaves, each as often as the others, so
+    that only the whole label set is in more than half of the trees."""
+    trees = all_trees(random_labels(rng, rng.randint(3, 5)))
+    times = rng.randint(1, MOST_TREES // len(trees))
+    return copied(rng, [(tree, times) for tree in trees])
+
+
+def many_clades_table(rng):
+    """10 to 40 unrelated trees of 9 to 40 leaves."""
+    labels = random_labels(rng, rng.randint(9, 40))
+    return [joined_combs(rng, labels) for _ in range(rng.randint(10, 40))]
+
+
+def joined_combs(rng, labels):
+    """Two to four combs, joined at random."""
+    labels = rng.sample(labels, len(labels))
+    ends = sorted(rng.sample(range(1, len(labels)), rng.randint(1, 3)))
+    pieces = [labels[start:end] for start, end in zip([0] + ends, ends + [len(labels)])]
+    return joined_at_random(rng, [comb(rng, piece) for piece in pieces])
+
+
+def fork_labels(tree):
+    """The label sets of a tree's forks, the root's last."""
+    if is_leaf(tree):
+        return []
+    below = fork_labels(tree[0]) + fork_labels(tree[1])
+    return below + [frozenset(int(token) for token in tokens(tree) if token.isdigit())]
+
+
+# 160 trees of 64 leaves each.
+
+
+def full_of_strangers(rng):
+    """No two trees share a clade but single labels and the whole label set.
+
+    So there are 160 times 62 clades of two or more labels and one more.  The
+    trees have few forks of two leaves, because 64 labels have 2,016 pairs.
+    """
+    trees, taken = [], set()
+    while len(trees) < MOST_TREES:
+        tree = joined_combs(rng, ALL_LABELS)
+        own = fork_labels(tree)[:-1]
+        if taken.isdisjoint(own):
+            taken.update(own)
+            trees.append(tree)
+    return trees
+
+
+def full_of_unrelated_trees(rng):
+    """Unrelated trees, which share small clades."""
+    return [joined_at_random(rng, ALL_LABELS) for _ in range(MOST_TREES)]
+
+
+def full_of_combs(rng):
+    """Combs with the labels in any order."""
+    return [comb(rng, rng.sample(ALL_LABELS, 64)) for _ in range(MOST_TREES)]
+
+
+def full_of_turned_combs(rng):
+    """Combs with the labels in order from any label on, round in a circle."""
+    starts = [rng.randrange(64) for _ in range(MOST_TREES)]
+    return [comb(rng, ALL_LABELS[start:] + ALL_LABELS[:start]) for start in starts]
+
+
+def full_of_near_copies(rng):
+    """Trees up to three moves away from one tree."""
+    return near_copies(rng, joined_combs(rng, ALL_LABELS), MOST_TREES)
+
+
+def full_of_halves(rng):
+    """80 copies of each of two trees, or 81 and 79, or 82 and 78."""
+    one = joined_combs(rng, ALL_LABELS)
+    other = changing_move(rng, changing_move(rng, one))
+    more = rng.randint(80, 82)
+    return copied(rng, [(one, more), (other, MOST_TREES - more)])
+
+
+def full_of_copies(rng):
+    """One topology, a comb or another."""
+    make = rng.choice((comb, joined_combs, joined_at_random))
+    return copied(rng, [(make(rng, ALL_LABELS), MOST_TREES)])
+
+
+FULL_TABLES = (
+    full_of_strangers, full_of_unrelated_trees, full_of_combs, full_of_turned_combs, full_of_near_copies,
+    full_of_halves, full_of_copies,
+)
+
+
+def full_table(rng):
+    """Any of these as a text, with few blanks, so that it is not too long."""
+    return with_blanks(rng, table_tokens(rng.choice(FULL_TABLES)(rng)), rng.choice((0.0, 0.05)))
+
+
 # Random damage
 
 
@@ -677,6 +813,15 @@ KINDS = (
     ("noise", 3, noise),
 )
 
+# For support.  The tables of groups are left out, as they take long to make.
+SUPPORT_KINDS = tuple(entry for entry in KINDS if entry[0] != "islands") + (
+    ("halves", 16, accepted(halves_table)),
+    ("near-copies", 14, accepted(near_copies_table)),
+    ("star", 5, accepted(star_table)),
+    ("many-clades", 4, accepted(many_clades_table)),
+    ("full", 3, full_table),
+)
+
 
 # Fixed cases
 
@@ -823,6 +968,35 @@ def copy_cases():
     return [("copy", plain(trees)) for trees in tables]
 
 
+def clade_cases():
+    """Clades in as many trees as others, in half of the trees and around it,
+    and majority trees with three or more children at a fork."""
+    texts = [
+        # {1,2}, {1,2,3}, {1,3}, {1,4}, {2,3} and {2,4} are in one tree each.
+        b"(((1,2),3),4);((1,3),(2,4));((2,3),(1,4));",
+        b"(((2,10),9),64);((2,9),(10,64));((9,10),(2,64));",
+        b"(((62,63),64),1);((62,64),(63,1));((63,64),(62,1));",
+        # Three children at the top, then further down, then at both.
+        b"((1,2),3);(1,(2,3));", b"(((1,2),3),4);((1,(2,3)),4);",
+        b"((((1,2),3),4),5);((4,(1,(2,3))),5);(((4,5),(1,3)),2);((((1,3),2),5),4);",
+        # Children that stand in another order by their digits.
+        b"(10,2);(2,10);", b"((10,2),9);((10,9),2);", b"((10,2),(9,1));((10,9),(2,1));",
+        b"(((10,2),9),64);(((10,9),2),64);", b"((10,11),(2,64));((11,10),(64,2));((10,2),(11,64));",
+        # One label and two.
+        b"64;", b"7;7;", b"1;" * MOST_TREES, b"(1,2);", b"(63,64);(64,63);",
+    ]
+    one, other = b"((1,2),(3,4));", b"(((1,3),2),4);"
+    for ones, others in ((1, 1), (2, 1), (2, 2), (3, 2), (3, 3), (4, 2), (79, 79), (80, 79), (80, 80), (81, 79)):
+        texts += [one * ones + other * others, other * ones + one * others]
+    return [("clade", text) for text in texts]
+
+
+def full_cases():
+    """A full table of the largest trees of each kind, and one tree more."""
+    made = [plain(make(random.Random("fixed " + make.__name__))) for make in FULL_TABLES]
+    return [("full", text) for text in made + [made[0] + made[0][:made[0].index(b";") + 1]]]
+
+
 def fixed_cases():
     """All fixed cases as (kind, text)."""
     return (
@@ -834,22 +1008,31 @@ def fixed_cases():
 # All cases
 
 
-def random_case(seed, position):
+def random_case(kinds, seed, position):
     """The random case at a position, as (kind, text)."""
     rng = random.Random("%d case %d" % (seed, position))
-    ((kind, _, make),) = rng.choices(KINDS, weights=[share for _, share, _ in KINDS])
+    ((kind, _, make),) = rng.choices(kinds, weights=[share for _, share, _ in kinds])
     return kind, make(rng)
 
 
-def cases(seed, count):
+def cases_of(fixed, kinds, seed, count):
     """Yield (position, kind, text) for the positions below `count`."""
-    fixed = fixed_cases()
     for position in range(count):
         if position < len(fixed):
             kind, text = fixed[position]
         else:
-            kind, text = random_case(seed, position)
+            kind, text = random_case(kinds, seed, position)
         yield position, kind, text
+
+
+def cases(seed, count):
+    """The cases for all programs but that of support."""
+    return cases_of(fixed_cases(), KINDS, seed, count)
+
+
+def support_cases(seed, count):
+    """The cases for the program of support."""
+    return cases_of(fixed_cases() + clade_cases() + full_cases(), SUPPORT_KINDS, seed, count)
 
 
 def file_name(position, kind):
@@ -858,17 +1041,19 @@ def file_name(position, kind):
 
 
 def main(arguments):
-    """Write the case files; gives the exit status."""
-    if len(arguments) != 3:
-        print("usage: generate.py SEED COUNT OUTDIR", file=sys.stderr)
-        return 2
-    seed, count, directory = int(arguments[0]), int(arguments[1]), arguments[2]
-    os.makedirs(directory, exist_ok=True)
-    for position, kind, text in cases(seed, count):
-        with open(os.path.join(directory, file_name(position, kind)), "wb") as file:
+    """Write the case files."""
+    parser = argparse.ArgumentParser(description="Write test inputs into files.")
+    parser.add_argument("--support", action="store_const", dest="cases", const=support_cases, default=cases,
+                        help="write the inputs for the program of support")
+    parser.add_argument("seed", type=int)
+    parser.add_argument("count", type=int)
+    parser.add_argument("directory", metavar="outdir")
+    options = parser.parse_args(arguments)
+    os.makedirs(options.directory, exist_ok=True)
+    for position, kind, text in options.cases(options.seed, options.count):
+        with open(os.path.join(options.directory, file_name(position, kind)), "wb") as file:
             file.write(text)
-    return 0
 
 
 if __name__ == "__main__":
-    sys.exit(main(sys.argv[1:]))
+    main(sys.argv[1:])

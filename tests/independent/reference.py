@@ -1,6 +1,7 @@
 #!/usr/bin/env python3
 """Reference program for the pair lister, written from document 01 and, for
-interchanges, islands and merged copies, tickets 2, 5 and 6 of document 02.
+interchanges, islands, merged copies and support, tickets 2, 5, 6 and 7 of
+document 02.
 
     reference.py [--islands]
 
@@ -17,10 +18,12 @@ program of islands.  As a module it offers the calls
                           the same, with copies kept apart where merge is False
     interchanges(text)    Interchanges(pairs, counts), copies kept apart
     islands(text)         Islands(pairs, counts, firsts, numbers), copies merged
+    support(text)         Support(clades, majority, trees), copies counted
 
 and `sheet(text)`, the bytes the command prints, with `interchange_sheet(text)`
-for those of interchanges.c, `graphs_sheet(text)` for those of graphs.c and
-`island_sheet(text)` for those of the program of islands.  Texts are bytes.  A call that refuses returns a
+for those of interchanges.c, `graphs_sheet(text)` for those of graphs.c,
+`support_sheet(text)` for those of supports.c and `island_sheet(text)` for those
+of the program of islands.  Texts are bytes.  A call that refuses returns a
 Refusal(number, text, place) instead; it is a tuple and equals the plain tuple
 of the same three numbers.
 
@@ -44,6 +47,11 @@ How islands are found.  From a first position not yet in an island, a
 breadth-first search goes along the listed pairs and gathers every position that
 it comes to; the smallest of them is the island's number.  A copy has the number
 of its first.
+
+How support is counted.  A tree's clades are a set, so a Counter over the clades
+of all trees has for each clade the number of trees in which it occurs.  In the
+majority tree a clade is a child of the smallest clade of this tree that holds
+it and more.  No clade is a number here, except on the sheet.
 
 The values here are returned, not written into lent memory, so refusal 7 (a
 lent slice too short) does not arise.
@@ -114,6 +122,17 @@ class Islands(NamedTuple):
     counts: list
     firsts: list
     numbers: list
+
+
+class Support(NamedTuple):
+    """(labels, number) for each clade of two or more labels: the labels
+    ascending, and the number of trees in which it occurs.  Then the text of the
+    majority tree, which is empty where there are no trees, and the number of
+    trees."""
+
+    clades: list
+    majority: bytes
+    trees: int
 
 
 class Refused(Exception):
@@ -462,6 +481,15 @@ def islands(text):
     return Islands(*graph_, island_numbers(graph_))
 
 
+@returns_refusal
+def support(text):
+    """The clades of a table, each with its number of trees, and the majority
+    tree."""
+    trees = read_table(text)
+    numbers = clade_numbers(trees)
+    return Support(listed_clades(numbers), majority_text(trees, numbers), len(trees))
+
+
 def table_of(trees):
     """The Table of trees already read."""
     texts = [canonical_text(tree) for tree in trees]
@@ -571,6 +599,47 @@ def joined_to(start, neighbours):
     return found
 
 
+def clade_numbers(trees):
+    """For each clade, those of one label too, the number of trees that have it."""
+    return collections.Counter(clade for tree in trees for clade in tree.clades)
+
+
+def listed_clades(numbers):
+    """(labels, number) for each clade of two or more labels: those in more
+    trees first, then by the labels.
+
+    Tuples are compared from the start on; one that ends first is the lesser.
+    """
+    listed = [(tuple(sorted(clade)), number) for clade, number in numbers.items() if len(clade) >= 2]
+    return sorted(listed, key=lambda item: (-item[1], item[0]))
+
+
+def majority_text(trees, numbers):
+    """The text of the majority tree, `;` included; empty without trees."""
+    if not trees:
+        return b""
+    # One-label clades and the whole label set are in every tree.
+    kept = [clade for clade, number in numbers.items() if 2 * number > len(trees)]
+    children = collections.defaultdict(list)
+    for clade in kept:
+        around = [other for other in kept if clade < other]
+        if around:
+            children[min(around, key=len)].append(clade)
+    return wide_node_text(trees[0].clade, children) + b";"
+
+
+def wide_node_text(clade, children):
+    """The text of the node with this clade, without `;`.
+
+    `children` has the clades of the children of each fork, two or more.
+    """
+    if not children[clade]:
+        (label,) = clade
+        return b"%d" % label
+    in_order = sorted(children[clade], key=min)
+    return b"(" + b",".join(wide_node_text(child, children) for child in in_order) + b")"
+
+
 # The sheets
 
 
@@ -615,6 +684,21 @@ def island_sheet(text):
         return refusal_line(answer)
     sizes = collections.Counter(answer.numbers)
     return b"".join(b"island %d %d\n" % item for item in sorted(sizes.items()))
+
+
+def support_sheet(text):
+    """What supports.c prints for this standard input.
+
+    Label L of a clade is bit L - 1 of the number that is printed.
+    """
+    answer = support(text)
+    if isinstance(answer, Refusal):
+        return refusal_line(answer)
+    lines = [b"trees %d clades %d bytes %d" % (answer.trees, len(answer.clades), len(answer.majority))]
+    for labels, number in answer.clades:
+        lines.append(b"clade %d trees %d" % (sum(2 ** (label - 1) for label in labels), number))
+    lines.append(b"majority " + answer.majority)
+    return b"".join(line + b"\n" for line in lines)
 
 
 def refusal_line(refusal):

@@ -5,6 +5,7 @@ and properties that hold for all trees, tried on all small and on random trees.
     python3 test_reference.py
 """
 
+import ast
 import collections
 import itertools
 import os
@@ -16,7 +17,8 @@ import unittest
 import generate
 import reference
 from reference import (
-    cut, form, graph, graph_choosing, interchange_sheet, interchanges, island_sheet, islands, pair, sheet, table,
+    cut, form, graph, graph_choosing, interchange_sheet, interchanges, island_sheet, islands, pair, sheet, support,
+    support_sheet, table,
 )
 
 HERE = os.path.dirname(os.path.abspath(__file__))
@@ -79,6 +81,17 @@ def texts_with_copies(seed, count):
     for _ in range(count):
         make = rng.choice((generate.usual_table, generate.repeats_table, generate.island_table))
         yield generate.written(rng, make(rng))
+
+
+def support_tables(seed, count):
+    """Tables of one or more trees, as lists, of the kinds made for support."""
+    rng = random.Random(seed)
+    for _ in range(count):
+        make = rng.choice((
+            generate.usual_table, generate.halves_table, generate.near_copies_table, generate.star_table,
+            generate.many_clades_table,
+        ))
+        yield make(rng)
 
 
 def trees_apart(seed, count):
@@ -146,6 +159,36 @@ def joined_matrix(count, pairs):
     return joined
 
 
+# Support, worked out clade by clade from nested tuples.  It is used in this file
+# only.
+
+
+def label_sets(nested):
+    """The label sets of all nodes of nested tuples, the root's last; a fork may
+    have any number of children."""
+    if not isinstance(nested, tuple):
+        return [{nested}]
+    below = [label_sets(child) for child in nested]
+    return sum(below, []) + [set().union(*(sets[-1] for sets in below))]
+
+
+def as_number(labels):
+    """The number of a clade, label by label."""
+    number = 0
+    for label in labels:
+        number |= 1 << (label - 1)
+    return number
+
+
+def before(one, other):
+    """Whether the first of two lists of labels is the lesser: at the first
+    place where they differ, it has the smaller label or has ended."""
+    for label, other_label in itertools.zip_longest(one, other, fillvalue=0):
+        if label != other_label:
+            return label < other_label
+    return False
+
+
 class Samples(unittest.TestCase):
     """Every sample of document 01."""
 
@@ -172,6 +215,7 @@ class Samples(unittest.TestCase):
         self.assertEqual(kept_apart(b""), ([], [], []))
         self.assertEqual(interchanges(b""), ([], []))
         self.assertEqual(islands(b""), ([], [], [], []))
+        self.assertEqual(support(b""), ([], b"", 0))
         self.assertEqual(sheet(b""), b"trees 0 pairs 0\n")
 
     def test_other_labels(self):
@@ -181,6 +225,7 @@ class Samples(unittest.TestCase):
         self.assertEqual(kept_apart(b"(1,2);(1,3);"), (5, 0, 11))
         self.assertEqual(interchanges(b"(1,2);(1,3);"), (5, 0, 11))
         self.assertEqual(islands(b"(1,2);(1,3);"), (5, 0, 11))
+        self.assertEqual(support(b"(1,2);(1,3);"), (5, 0, 11))
 
     def test_cuts(self):
         """All cuts of the four-leaf sample, and none of a single leaf."""
@@ -221,6 +266,7 @@ class Samples(unittest.TestCase):
         self.assertEqual(kept_apart(b"(1,2);" * 161), (6, 0, 960))
         self.assertEqual(interchanges(b"(1,2);" * 161), (6, 0, 960))
         self.assertEqual(islands(b"(1,2);" * 161), (6, 0, 960))
+        self.assertEqual(support(b"(1,2);" * 161), (6, 0, 960))
 
     def test_sheet(self):
         """The whole sample sheet."""
@@ -351,6 +397,8 @@ class Refusals(unittest.TestCase):
         self.assertEqual(interchange_sheet(b"x" * 65536), b"refused 8 at 0\n")
         self.assertEqual(island_sheet(b"(1,2,3);"), b"refused 1 at 4\n")
         self.assertEqual(island_sheet(b"x" * 65536), b"refused 8 at 0\n")
+        self.assertEqual(support_sheet(b"(1,2,3);"), b"refused 1 at 4\n")
+        self.assertEqual(support_sheet(b"x" * 65536), b"refused 8 at 0\n")
         self.assertEqual(sheet(b"1;"), b"trees 1 pairs 0\ntree 0 neighbours 0 unlinked 0 1;\n")
 
 
@@ -583,6 +631,149 @@ class Islands(unittest.TestCase):
             self.assertEqual(island_sheet(text), sheet(text))
 
 
+class Support(unittest.TestCase):
+    """Known cases of support and majority trees."""
+
+    def check(self, text, clades, majority):
+        """The table has these clades, each with its number of trees and in this
+        order, and this majority tree."""
+        answer = support(text)
+        self.assertEqual(answer.clades, clades)
+        self.assertEqual(answer.majority, majority)
+        self.assertEqual(answer.trees, text.count(b";"))
+
+    def test_sample(self):
+        """Document 01's table: tree 1 is a copy of tree 0, and counts."""
+        self.check(SAMPLE_INPUT, [((1, 2, 3), 4), ((1, 2), 2), ((1, 3), 1), ((2, 3), 1)], b"(1,2,3);")
+
+    def test_no_trees(self):
+        """No clades and no text, not even a `;`."""
+        self.check(b"", [], b"")
+        self.check(b" \t\r\n", [], b"")
+        self.assertEqual(support_sheet(b""), b"trees 0 clades 0 bytes 0\nmajority \n")
+
+    def test_one_leaf(self):
+        """A clade of one label is not listed."""
+        self.check(b" 7 ;", [], b"7;")
+        self.check(b"64;" * 160, [], b"64;")
+
+    def test_two_leaves(self):
+        """The whole label set is listed."""
+        self.check(b"(10,2);", [((2, 10), 1)], b"(2,10);")
+
+    def test_one_tree(self):
+        """All clades are in every tree, and the majority tree is the tree."""
+        self.check(
+            b"((4,3),(5,(1,2)));", [((1, 2), 1), ((1, 2, 3, 4, 5), 1), ((1, 2, 5), 1), ((3, 4), 1)],
+            b"(((1,2),5),(3,4));")
+
+    def test_order(self):
+        """Clades in one tree each: by labels from the smallest on, whichever
+        tree they are from, and a list that ends first is the lesser."""
+        trees = [b"(((1,2),3),4);", b"((1,3),(2,4));", b"((2,3),(1,4));"]
+        clades = [(1, 2), (1, 2, 3), (1, 3), (1, 4), (2, 3), (2, 4)]
+        for order in itertools.permutations(trees):
+            self.check(b"".join(order), [((1, 2, 3, 4), 3)] + [(clade, 1) for clade in clades], b"(1,2,3,4);")
+        # The whole label set is no exception.
+        self.check(b"(1,(2,3));", [((1, 2, 3), 1), ((2, 3), 1)], b"(1,(2,3));")
+        self.check(b"((1,2),3);", [((1, 2), 1), ((1, 2, 3), 1)], b"((1,2),3);")
+        # Labels are compared as numbers.
+        self.check(b"((2,10),(9,64));", [((2, 9, 10, 64), 1), ((2, 10), 1), ((9, 64), 1)], b"((2,10),(9,64));")
+
+    def test_more_trees_first(self):
+        """A greater number goes before lesser labels."""
+        self.check(
+            b"((1,2),(3,4));(1,(2,(3,4)));", [((1, 2, 3, 4), 2), ((3, 4), 2), ((1, 2), 1), ((2, 3, 4), 1)],
+            b"(1,2,(3,4));")
+
+    def test_half(self):
+        """Half of the trees is no majority; one tree more is."""
+        one, other = b"((1,2),3);", b"((1,3),2);"
+        for times in (1, 2, 3, 80):
+            self.check(
+                one * times + other * times, [((1, 2, 3), 2 * times), ((1, 2), times), ((1, 3), times)], b"(1,2,3);")
+        for more, fewer in ((2, 1), (3, 1), (3, 2), (80, 79), (81, 79)):
+            both = more + fewer
+            self.check(
+                one * more + other * fewer, [((1, 2, 3), both), ((1, 2), more), ((1, 3), fewer)], b"((1,2),3);")
+            self.check(
+                one * fewer + other * more, [((1, 2, 3), both), ((1, 3), more), ((1, 2), fewer)], b"((1,3),2);")
+
+    def test_copies(self):
+        """Copies count, however they are written: without them each clade of
+        two labels would be in one tree of two."""
+        self.check(b"((1,2),3);(3,(02,1));((1,3),2);", [((1, 2, 3), 3), ((1, 2), 2), ((1, 3), 1)], b"((1,2),3);")
+        self.check(b"((3,2),(1,4));" * 160, [((1, 2, 3, 4), 160), ((1, 4), 160), ((2, 3), 160)], b"((1,4),(2,3));")
+
+    def test_star(self):
+        """No majority but the whole label set."""
+        self.check(
+            b"((1,2),3);((1,3),2);(1,(2,3));", [((1, 2, 3), 3), ((1, 2), 1), ((1, 3), 1), ((2, 3), 1)], b"(1,2,3);")
+        for size in (3, 4, 5):
+            answer = support(generate.plain(generate.all_trees((10, 2, 64, 9, 33)[:size])))
+            self.assertEqual(answer.majority, (b"(2,10,64);", b"(2,9,10,64);", b"(2,9,10,33,64);")[size - 3])
+
+    def test_wide_forks(self):
+        """Three children at the root, below it, and at both."""
+        self.check(
+            b"(((1,2),3),4);((1,2),(3,4));", [((1, 2), 2), ((1, 2, 3, 4), 2), ((1, 2, 3), 1), ((3, 4), 1)],
+            b"((1,2),3,4);")
+        self.check(
+            b"(((1,2),3),4);((1,(2,3)),4);", [((1, 2, 3), 2), ((1, 2, 3, 4), 2), ((1, 2), 1), ((2, 3), 1)],
+            b"((1,2,3),4);")
+        self.assertEqual(support(b"((((1,2),3),4),5);((4,5),(1,(2,3)));").majority, b"((1,2,3),4,5);")
+
+    def test_majority_of_no_tree(self):
+        """The majority clades may come from different trees."""
+        text = b"((((1,2),3),4),5);((1,2),(3,(4,5)));(((1,3),2),(4,5));"
+        self.assertEqual(support(text).majority, b"(((1,2),3),(4,5));")
+        self.assertNotIn(b"(((1,2),3),(4,5));", table(text).texts)
+
+    def test_children_by_number(self):
+        """The child of the smallest label first, 2 before 10, at forks of any
+        number of children."""
+        self.assertEqual(support(b"(10,2);").majority, b"(2,10);")
+        self.assertEqual(support(b"((10,2),9);((10,9),2);").majority, b"(2,9,10);")
+        self.assertEqual(support(b"((10,11),(64,2));").majority, b"((2,64),(10,11));")
+        self.assertEqual(
+            support(b"(((11,20),3),(10,(64,2)));(((11,20),10),(3,(64,2)));").majority, b"((2,64),3,10,(11,20));")
+
+    def test_numbers_on_the_sheet(self):
+        """Label L is bit L - 1."""
+        self.assertEqual(support_sheet(b"((2,1),64);(2,(1,64));"), b"""\
+trees 2 clades 3 bytes 9
+clade 9223372036854775811 trees 2
+clade 3 trees 1
+clade 9223372036854775809 trees 1
+majority (1,2,64);
+""")
+        self.assertEqual(
+            support_sheet(LEFT_COMB).splitlines()[-2:],
+            [b"clade 18446744073709551615 trees 1", b"majority " + LEFT_COMB])
+
+    def test_full_tables(self):
+        """160 trees of 64 leaves: one comb, two combs in 80 trees each, and
+        trees that share no clade but the whole label set."""
+        answer = support(LEFT_COMB * 160)
+        self.assertEqual(answer.clades, [(tuple(range(1, size + 1)), 160) for size in range(2, 65)])
+        self.assertEqual((answer.majority, answer.trees), (LEFT_COMB, 160))
+        answer = support(LEFT_COMB * 80 + RIGHT_COMB * 80)
+        self.assertEqual(answer.clades[0], (tuple(range(1, 65)), 160))
+        self.assertEqual({number for _, number in answer.clades[1:]}, {80})
+        self.assertEqual(len(answer.clades), 1 + 62 + 62)
+        self.assertEqual(answer.majority, b"(" + b",".join(b"%d" % label for label in range(1, 65)) + b");")
+        answer = support(generate.plain(generate.full_of_strangers(random.Random(31))))
+        self.assertEqual(len(answer.clades), 9921)
+        self.assertEqual(answer.majority.count(b"("), 1)
+
+    def test_refused(self):
+        """As in the table call."""
+        for text in (b"(1,2,3);", b"(1,65);", b"(1,1);", OPEN_63 + b"(", b"1;2;", b"1;" * 161, b" " * 65536):
+            self.assertIsInstance(support(text), reference.Refusal)
+            self.assertEqual(support(text), table(text))
+            self.assertEqual(support_sheet(text), sheet(text))
+
+
 class AllSmallTrees(unittest.TestCase):
     """Properties tried on every topology of up to five leaves."""
 
@@ -662,6 +853,16 @@ class AllSmallTrees(unittest.TestCase):
             self.assertEqual(merged.pairs, alone.pairs)
             self.assertEqual(merged.counts, alone.counts + [0] * len(copied))
             self.assertEqual(merged.firsts, alone.firsts + copied)
+
+    def test_support_of_all_topologies(self):
+        """A clade's number is that of the topologies of its labels, times that
+        of the others with it as one leaf."""
+        topologies = (0, 1, 1, 3, 15, 105)
+        for size in range(2, 6):
+            answer = support(b"".join(map(reference.canonical_text, self.by_size[size])))
+            self.assertEqual(len(answer.clades), 2 ** size - size - 1)
+            for labels, number in answer.clades:
+                self.assertEqual(number, topologies[len(labels)] * topologies[size - len(labels) + 1])
 
     def test_results_are_trees(self):
         """Every topology that a move gives is one of the possible ones."""
@@ -901,6 +1102,72 @@ class RandomTrees(unittest.TestCase):
         self.assertGreater(with_chains, 50)
         self.assertGreater(copies_of_later, 50)
 
+    def test_support_tables(self):
+        """Each clade of the trees is listed once, with the number of trees that
+        have it, and stands before the next."""
+        for nested in support_tables(32, 150):
+            clades, _, trees = support(generate.plain(nested))
+            self.assertEqual(trees, len(nested))
+            sets = [label_sets(tree) for tree in nested]
+            for labels, number in clades:
+                self.assertEqual(number, sum(set(labels) in own for own in sets))
+                self.assertGreater(number, 0)
+            listed = {labels for labels, _ in clades}
+            self.assertEqual(len(listed), len(clades))
+            self.assertEqual(listed, {tuple(sorted(one)) for own in sets for one in own if len(one) > 1})
+            for (one, number), (other, other_number) in zip(clades, clades[1:]):
+                self.assertTrue(number > other_number or number == other_number and before(one, other))
+
+    def test_majority_trees(self):
+        """The majority clades are nested or disjoint; the clades of the text are
+        those, the single labels, and no others; children stand by smallest
+        label."""
+        wide = 0
+        for nested in support_tables(33, 150):
+            clades, majority, trees = support(generate.plain(nested))
+            labels = label_sets(nested[0])[-1]
+            kept = [set(own) for own, number in clades if 2 * number > trees]
+            for one, other in itertools.combinations(kept, 2):
+                self.assertTrue(one < other or other < one or not one & other)
+            # The text of a tree without its `;` is a number or a tuple in Python too.
+            written = ast.literal_eval(majority[:-1].decode())
+            sets = label_sets(written)
+            self.assertCountEqual(map(as_number, sets), map(as_number, kept + [{label} for label in labels]))
+            self.assertEqual(majority, b"%s;" % str(written).replace(" ", "").encode())
+            self.check_order(written)
+            wide += len(sets) < 2 * len(labels) - 1
+        self.assertGreater(wide, 50)
+
+    def check_order(self, nested):
+        """Every fork has two or more children, by smallest label."""
+        if isinstance(nested, tuple):
+            self.assertGreater(len(nested), 1)
+            least = [min(label_sets(child)[-1]) for child in nested]
+            self.assertEqual(least, sorted(least))
+            for child in nested:
+                self.check_order(child)
+
+    def test_support_does_not_depend_on_order(self):
+        """Nor on the layout; and every tree twice doubles the numbers."""
+        rng = random.Random(34)
+        for nested in support_tables(34, 60):
+            answer = support(generate.plain(nested))
+            mixed = [generate.swapped(rng, tree) for tree in rng.sample(nested, len(nested))]
+            self.assertEqual(support(generate.written(rng, mixed)), answer)
+            doubled = [(labels, 2 * number) for labels, number in answer.clades]
+            if 2 * len(nested) <= 160:
+                self.assertEqual(support(generate.plain(nested * 2)), (doubled, answer.majority, 2 * len(nested)))
+
+    def test_support_sheets(self):
+        """The sheet has the numbers of the clades in the same order."""
+        for nested in support_tables(35, 40):
+            text = generate.plain(nested)
+            clades, majority, trees = support(text)
+            lines = ["trees %d clades %d bytes %d" % (trees, len(clades), len(majority))]
+            lines += ["clade %d trees %d" % (as_number(labels), number) for labels, number in clades]
+            lines.append("majority " + majority.decode())
+            self.assertEqual(support_sheet(text).decode().splitlines(), lines)
+
     def test_islands_of_copies_kept_apart(self):
         """The islands are those of the pairs kept apart, once each copy is
         joined to its first as well."""
@@ -992,6 +1259,52 @@ class Generator(unittest.TestCase):
             unequal += len(set(sizes)) > 1
             mixed += numbers != sorted(numbers)
         self.assertGreater(min(large, unequal, mixed), 15)
+
+    def test_support_cases(self):
+        """They begin with the other programs' fixed cases."""
+        fixed = generate.fixed_cases()
+        given = list(generate.support_cases(3, len(fixed)))
+        self.assertEqual(given, list(generate.cases(4, len(fixed))))
+
+    def test_halves(self):
+        """A table of halves has clades of just one of two trees, most often in
+        half of all trees or one or two more."""
+        rng = random.Random(36)
+        ahead = collections.Counter()
+        for _ in range(100):
+            clades, _, trees = support(generate.plain(generate.halves_table(rng)))
+            parts = {number for _, number in clades if number < trees}
+            self.assertLessEqual(len(parts), 2)
+            ahead.update(2 * number - trees for number in parts)
+        self.assertLessEqual(set(ahead), {-2, -1, 0, 1, 2})
+        self.assertGreater(min(ahead[0], ahead[1], ahead[2]), 9)
+
+    def test_stars(self):
+        """A table of stars has the whole label set as its only majority."""
+        rng = random.Random(37)
+        sizes = set()
+        for _ in range(30):
+            clades, majority, trees = support(generate.plain(generate.star_table(rng)))
+            self.assertEqual([number for _, number in clades if 2 * number > trees], [trees])
+            self.assertEqual(majority.count(b"("), 1)
+            sizes.add(len(clades[0][0]))
+        self.assertEqual(sizes, {3, 4, 5})
+
+    def test_fork_labels(self):
+        """The label sets of forks, the root's last."""
+        self.assertEqual(generate.fork_labels(7), [])
+        self.assertEqual(generate.fork_labels(((1, 2), (3, 10))), [{1, 2}, {3, 10}, {1, 2, 3, 10}])
+
+    def test_full_tables(self):
+        """Each has 160 trees of 64 leaves and is accepted in any layout."""
+        for make in generate.FULL_TABLES:
+            with self.subTest(make=make.__name__):
+                trees = make(random.Random(38))
+                self.assertEqual(len(trees), 160)
+                self.assertEqual({frozenset(label_sets(tree)[-1]) for tree in trees}, {frozenset(range(1, 65))})
+        rng = random.Random(39)
+        for _ in range(12):
+            self.assertLessEqual(len(generate.full_table(rng)), 65535)
 
     def test_command(self):
         """The command prints the sheet and nothing else."""

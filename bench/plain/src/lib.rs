@@ -5,7 +5,8 @@
 //! canonical string, the strings are the keys of a hash map, and two trees of
 //! different topology that meet under one key are a pair. For interchanges the
 //! canonical texts of all trees one interchange away are looked up among those
-//! of the table. Islands are found by uniting sets along the listed pairs.
+//! of the table. Islands are found by uniting sets along the listed pairs. For
+//! clade support the label sets of all forks are counted in a hash map.
 //!
 //! Copies are trees of one topology. Merged, only the first of them stands in
 //! pairs; kept apart, each of them does. They are never a pair with each other.
@@ -13,6 +14,7 @@
 //! Results are returned, not written into lent memory, so refusal 7 (a lent
 //! slice too short) does not arise.
 
+mod clades;
 mod reader;
 mod tree;
 
@@ -77,6 +79,18 @@ pub struct Graph {
 pub struct Islands {
     pub graph: Graph,
     pub numbers: Vec<u16>,
+}
+
+/// The clades of a table and its majority tree.
+#[derive(Debug, PartialEq, Eq)]
+pub struct Support {
+    pub trees: usize,
+    /// Each clade of two or more labels, bit `label - 1` for each label, and in
+    /// how many trees it occurs. Those in more trees come first, then those
+    /// with the lesser list of labels.
+    pub clades: Vec<(u64, u16)>,
+    /// The text of the majority tree; empty for a table without trees.
+    pub majority: Vec<u8>,
 }
 
 /// The canonical text of a text with exactly one tree.
@@ -160,6 +174,39 @@ pub fn islands(text: &[u8]) -> Result<Islands, Refusal> {
     let of_first = |&first: &u16| joined[usize::from(first)];
     let numbers = graph.firsts.iter().map(of_first).collect();
     Ok(Islands { graph, numbers })
+}
+
+/// How many trees of a table have each clade, copies counted, and the majority
+/// tree: the clades of more than half of the trees, the one-label clades and
+/// the whole label set.
+pub fn support(text: &[u8]) -> Result<Support, Refusal> {
+    Ok(clades::support_of(&read_table(text)?))
+}
+
+/// The support of a table as text: the numbers of trees and clades, a line for
+/// each clade with its number in base 16 and how many trees have it, and the
+/// majority tree if there is one.
+pub fn support_sheet(text: &[u8]) -> Vec<u8> {
+    let mut out = Vec::new();
+    write_support_sheet(text, &mut out).expect("writing to a vector does not fail");
+    out
+}
+
+fn write_support_sheet(text: &[u8], out: &mut Vec<u8>) -> std::io::Result<()> {
+    let support = match support(text) {
+        Ok(support) => support,
+        Err(refusal) => return write_refusal(refusal, out),
+    };
+    let (trees, clades) = (support.trees, support.clades.len());
+    writeln!(out, "trees {trees} clades {clades}")?;
+    for (clade, number) in support.clades {
+        writeln!(out, "{clade:x} {number}")?;
+    }
+    if trees > 0 {
+        out.extend_from_slice(&support.majority);
+        out.push(b'\n');
+    }
+    Ok(())
 }
 
 /// The islands of a table as text: a line for each, in order of number, with

@@ -1,6 +1,7 @@
 //! Reads a table of trees from standard input and prints the sheet; with
 //! `--interchanges`, the graph of interchanges; with `--islands`, the islands,
-//! in which copies are merged.
+//! in which copies are merged; with `--support`, how many trees have each clade
+//! and the majority tree.
 
 use std::io::{self, Read, Write};
 
@@ -9,6 +10,7 @@ fn main() -> io::Result<()> {
         None => plain::sheet,
         Some("--interchanges") => plain::interchange_sheet,
         Some("--islands") => plain::island_sheet,
+        Some("--support") => plain::support_sheet,
         Some(other) => panic!("not an option: {other}"),
     };
     // One byte above the limit is enough for the refusal.

@@ -1,4 +1,4 @@
-//! The samples of document 01, copies, interchanges and islands.
+//! The samples of document 01, copies, interchanges, islands and clade support.
 
 use super::*;
 
@@ -56,8 +56,10 @@ fn empty_text() {
     assert_eq!(graph_with_copies(b""), listed(&[], &[], &[]));
     assert_eq!(interchanges(b""), Ok((vec![], vec![])));
     has_islands("", &[], &[]);
+    has_support("", &[], "");
     assert_eq!(sheet(b""), b"trees 0 pairs 0\n");
     assert_eq!(island_sheet(b""), b"");
+    assert_eq!(support_sheet(b""), b"trees 0 clades 0\n");
 }
 
 #[test]
@@ -473,4 +475,147 @@ fn island_sheets() {
     );
     assert_eq!(island_sheet(b"(1,2,3);"), b"refused 1 at 4\n");
     assert_eq!(island_sheet(&vec![b'x'; 65_536]), b"refused 8 at 0\n");
+}
+
+/// A table with these clades, in how many trees each is, and this majority tree.
+fn has_support(table: &str, clades: &[(u64, u16)], majority: &str) {
+    let expected = Ok(Support {
+        trees: table.matches(';').count(),
+        clades: clades.to_vec(),
+        majority: majority.as_bytes().to_vec(),
+    });
+    assert_eq!(support(table.as_bytes()), expected, "{table}");
+}
+
+#[test]
+fn support_of_tables() {
+    has_support(" 7 ;", &[], "7;");
+    has_support("7;7;", &[], "7;");
+    has_support("(64,1);", &[(1 << 63 | 1, 1)], "(1,64);");
+    has_support("(10,(9,2));", &[(0x102, 1), (0x302, 1)], "((2,9),10);");
+    // Copies count, however they are written.
+    has_support("((1,2),3);(3,(2,1));", &[(3, 2), (7, 2)], "((1,2),3);");
+    // Half of the trees are not enough.
+    has_support(
+        "((1,2),3);((1,3),2);",
+        &[(7, 2), (3, 1), (5, 1)],
+        "(1,2,3);",
+    );
+    // Those in one tree: 1 2 3, 1 3, 2 3, 2 3 4, 2 4, 3 4.
+    has_support(
+        "(((1,2),3),4);((1,3),(2,4));(1,((2,3),4));((1,2),(3,4));",
+        &[
+            (0xf, 4),
+            (3, 2),
+            (7, 1),
+            (5, 1),
+            (6, 1),
+            (0xe, 1),
+            (0xa, 1),
+            (0xc, 1),
+        ],
+        "(1,2,3,4);",
+    );
+    // Only {2, 3}, in two trees of three, is kept.
+    has_support(
+        "(((2,3),4),1);((2,3),(4,1));(((1,2),3),4);",
+        &[(0xf, 3), (6, 2), (3, 1), (7, 1), (9, 1), (0xe, 1)],
+        "(1,(2,3),4);",
+    );
+    assert_eq!(support(b"(1,2);(1,3);"), refused(5, 11));
+}
+
+/// Every table of up to four trees of four leaves beside the sets of labels
+/// tried one by one.
+#[test]
+fn support_of_every_small_table() {
+    let mut texts: Vec<String> = vec![left_comb(4)];
+    let mut next = 0;
+    while next < texts.len() {
+        for text in interchanged(&texts[next].clone()) {
+            if !texts.contains(&text) {
+                texts.push(text);
+            }
+        }
+        next += 1;
+    }
+    assert_eq!(texts.len(), 15);
+    let sets: Vec<HashSet<u64>> = texts.iter().map(|text| sets_in_brackets(text)).collect();
+    for trees in 1..=4 {
+        for chosen in 0..texts.len().pow(trees) {
+            let table: Vec<usize> = (0..trees)
+                .map(|k| chosen / texts.len().pow(k) % texts.len())
+                .collect();
+            has_counted_support(&table, &texts, &sets);
+        }
+    }
+}
+
+fn has_counted_support(table: &[usize], texts: &[String], sets: &[HashSet<u64>]) {
+    let text: String = table.iter().map(|&k| texts[k].as_str()).collect();
+    let found = support(text.as_bytes()).unwrap();
+    let number_of = |set: u64| table.iter().filter(|&&k| sets[k].contains(&set)).count();
+    let labels = |set: u64| (1..=4).filter(move |label| set >> (label - 1) & 1 == 1);
+    let mut clades: Vec<u64> = (0..16).filter(|&set| number_of(set) > 0).collect();
+    clades.sort_by(|&one, &other| {
+        let by_number = number_of(other).cmp(&number_of(one));
+        by_number.then(labels(one).cmp(labels(other)))
+    });
+    let expected: Vec<(u64, u16)> = clades
+        .iter()
+        .map(|&set| (set, number_of(set) as u16))
+        .collect();
+    assert_eq!(found.clades, expected, "{text}");
+
+    let kept = |set: &u64| set.count_ones() > 1 && 2 * number_of(*set) > table.len();
+    let expected: HashSet<u64> = (1..16).filter(kept).collect();
+    let majority = String::from_utf8(found.majority).unwrap();
+    assert_eq!(sets_in_brackets(&majority), expected, "{text}");
+}
+
+/// The sets of labels between the pairs of brackets of a text, labels up to 9.
+fn sets_in_brackets(text: &str) -> HashSet<u64> {
+    let mut open = Vec::new();
+    let mut closed = HashSet::new();
+    for byte in text.bytes() {
+        match byte {
+            b'(' => open.push(0),
+            b')' => assert!(closed.insert(open.pop().unwrap()), "{text}"),
+            b'1'..=b'9' => open.iter_mut().for_each(|set| *set |= 1 << (byte - b'1')),
+            _ => assert!(matches!(byte, b',' | b';'), "{text}"),
+        }
+    }
+    assert!(open.is_empty(), "{text}");
+    closed
+}
+
+#[test]
+fn support_of_full_tables() {
+    let comb = left_comb(64);
+    let clades: Vec<(u64, u16)> = (2..=64).map(|n| (u64::MAX >> (64 - n), 160)).collect();
+    has_support(&comb.repeat(160), &clades, &comb);
+    // Half of the trees, and one more.
+    let (one, other) = ("((1,2),3);", "((1,3),2);");
+    has_support(
+        &(one.repeat(80) + &other.repeat(80)),
+        &[(7, 160), (3, 80), (5, 80)],
+        "(1,2,3);",
+    );
+    has_support(
+        &(one.repeat(79) + &other.repeat(81)),
+        &[(7, 160), (5, 81), (3, 79)],
+        "((1,3),2);",
+    );
+}
+
+#[test]
+fn support_sheets() {
+    assert_eq!(
+        support_sheet(b"((1,2),(3,10));(((1,2),3),10);((1,2),(3,10));"),
+        b"trees 3 clades 4\n3 3\n207 3\n204 2\n7 1\n((1,2),(3,10));\n"
+    );
+    assert_eq!(support_sheet(b" 7 ;"), b"trees 1 clades 0\n7;\n");
+    assert_eq!(support_sheet(b" \t\r\n"), b"trees 0 clades 0\n");
+    assert_eq!(support_sheet(b"(1,2,3);"), b"refused 1 at 4\n");
+    assert_eq!(support_sheet(&vec![b'x'; 65_536]), b"refused 8 at 0\n");
 }

@@ -1,4 +1,5 @@
-//! Trees, their canonical texts, their forests and their interchanges.
+//! Trees, their canonical texts, their clades, their forests and their
+//! interchanges.
 
 use std::ops::Range;
 
@@ -102,6 +103,23 @@ impl Tree {
     /// The canonical text, `;` included.
     pub fn canonical_text(&self) -> &[u8] {
         &self.text
+    }
+
+    /// The label sets of all forks, bit `label - 1` for each label.
+    pub fn clades(&self) -> Vec<u64> {
+        let mut sets = vec![0; self.nodes.len()];
+        // A node stands before those below it, so a set is complete when it is
+        // reached from behind; a leaf's is still empty then.
+        for (index, node) in self.nodes.iter().enumerate().rev() {
+            if sets[index] == 0 {
+                sets[index] = 1 << (node.least - 1);
+            }
+            if let Some((parent, _)) = node.above {
+                sets[parent] |= sets[index];
+            }
+        }
+        sets.retain(|set: &u64| set.count_ones() > 1);
+        sets
     }
 
     pub fn number_of_cuts(&self) -> usize {

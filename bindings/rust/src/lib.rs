@@ -7,6 +7,7 @@
 //! Trees of one topology are copies of each other, however they are written; two copies are never a pair. The first
 //! position of a topology is the smallest position whose tree has it. [`graph`] and [`islands`] merge copies: only
 //! first positions stand in pairs. [`graph_choosing`] can keep copies apart, and [`interchanges`] always does.
+//! [`support`] counts every copy.
 //!
 //! ```
 //! assert_eq!(norbelath::form(b"(3,(2,1));").unwrap(), b"((1,2),3);");
@@ -25,6 +26,9 @@
 //! assert_eq!(answer.pairs, [(0, 1)]);
 //! let answer = norbelath::islands(b"(((1,2),3),4); (1,(2,(3,4))); (((1,3),2),4); ((2,(4,3)),1);").unwrap();
 //! assert_eq!(answer.islands, [0, 1, 0, 1]);
+//! let support = norbelath::support(trees).unwrap();
+//! assert_eq!(support.clades, [(0b111, 3), (0b011, 2), (0b110, 1)]);
+//! assert_eq!(support.majority, b"((1,2),3);");
 //! let table = norbelath::table(b"(2,1); (1,2);").unwrap();
 //! assert_eq!(table.trees().collect::<Vec<_>>(), [b"(1,2);", b"(1,2);"]);
 //! assert_eq!(norbelath::sheet(b"(1,2);"), b"trees 1 pairs 0\ntree 0 neighbours 0 unlinked 0 (1,2);\n");
@@ -58,6 +62,12 @@ pub const GRAPH_COUNTS: usize = 160;
 pub const GRAPH_FIRSTS: usize = 160;
 /// The least length of the slice lent to [`islands_into`] for the islands.
 pub const ISLANDS: usize = 160;
+/// The least length of the slice lent to [`support_into`] for the clades.
+pub const SUPPORT_CLADES: usize = 9_921;
+/// The least length of the slice lent to [`support_into`] for the trees of each clade.
+pub const SUPPORT_TREES: usize = 9_921;
+/// The least length of the slice lent to [`support_into`] for the majority tree.
+pub const SUPPORT_OUT: usize = 309;
 /// The least length of the slice lent to [`sheet_into`].
 pub const SHEET_OUT: usize = 220_902;
 
@@ -147,6 +157,19 @@ extern "C" {
         islands_len: usize,
         first: *mut u64,
         second: *mut u64,
+    ) -> u8;
+    fn norbelath_support(
+        text: *const u8,
+        text_len: usize,
+        clades: *mut u64,
+        clades_len: usize,
+        trees: *mut u16,
+        trees_len: usize,
+        out: *mut u8,
+        out_len: usize,
+        first: *mut u64,
+        second: *mut u64,
+        third: *mut u64,
     ) -> u8;
     fn norbelath_sheet(
         text: *const u8,
@@ -247,6 +270,14 @@ pub struct GraphSize {
     pub pairs: usize,
 }
 
+/// How much [`support_into`] wrote: a number for each clade in two slices, and so many bytes; and of how many trees.
+#[derive(Clone, Copy, Debug, PartialEq, Eq)]
+pub struct SupportSize {
+    pub clades: usize,
+    pub bytes: usize,
+    pub trees: usize,
+}
+
 /// What [`table`] gives: the canonical texts one after another, and the end of each, the offset behind its `;`.
 #[derive(Clone, Debug, PartialEq, Eq)]
 pub struct Table {
@@ -290,6 +321,15 @@ pub struct Islands {
     pub counts: Vec<u16>,
     pub firsts: Vec<u16>,
     pub islands: Vec<u16>,
+}
+
+/// What [`support`] gives: each clade of two or more labels, with bit L − 1 set for each label L, and the number of
+/// trees that have it; how many trees there are; and the text of the majority tree, empty where there are none.
+#[derive(Clone, Debug, PartialEq, Eq)]
+pub struct Support {
+    pub clades: Vec<(u64, u16)>,
+    pub trees: usize,
+    pub majority: Vec<u8>,
 }
 
 /// Makes a call that is lent two numbers, and reads its result: the two numbers of what is accepted, or the refusal.
@@ -477,6 +517,38 @@ fn listed(call: impl FnOnce(&mut u64, &mut u64) -> u8) -> Result<GraphSize, Refu
     Ok(GraphSize { trees, pairs })
 }
 
+/// Writes the clades of a text's trees into `clades`, of at least [`SUPPORT_CLADES`] numbers; the number of trees that
+/// have each into `trees`, of at least [`SUPPORT_TREES`]; and the text of the majority tree into `out`, of at least
+/// [`SUPPORT_OUT`] bytes. [`support`] says which they are, and in what order.
+pub fn support_into(
+    text: &[u8],
+    clades: &mut [u64],
+    trees: &mut [u16],
+    out: &mut [u8],
+) -> Result<SupportSize, Refusal> {
+    let mut third = 0;
+    let (clades, bytes) = answer(|first, second| unsafe {
+        norbelath_support(
+            text.as_ptr(),
+            text.len(),
+            clades.as_mut_ptr(),
+            clades.len(),
+            trees.as_mut_ptr(),
+            trees.len(),
+            out.as_mut_ptr(),
+            out.len(),
+            first,
+            second,
+            &mut third,
+        )
+    })?;
+    Ok(SupportSize {
+        clades,
+        bytes,
+        trees: third as usize,
+    })
+}
+
 /// Writes what the pair lister prints for a text into `out`, of at least [`SHEET_OUT`] bytes. Gives its length.
 ///
 /// A text that is refused has its sheet too, the line `refused N at P`: the only refusal is [`Refusal::SHORT_SLICE`].
@@ -586,6 +658,27 @@ fn list_by(
         .map(|pair| (pair[0], pair[1]))
         .collect();
     Ok((pairs, counts))
+}
+
+/// Every clade of two or more labels of a text's trees, once, with the number of trees that have it, and the majority
+/// tree. Copies are counted.
+///
+/// A clade has bit L − 1 set for each of its labels L. Clades of more trees come first; of as many, the labels are
+/// compared from the smallest on, and a clade whose labels end first is the lesser: {1,2}, {1,2,3}, {1,3}, {2,3}.
+///
+/// The clades of the majority tree are those of more than half of the trees, each label alone and all labels. A node of
+/// it may have more than two children, which stand in the order of their smallest labels. Without trees there is none.
+pub fn support(text: &[u8]) -> Result<Support, Refusal> {
+    let mut clades = vec![0; SUPPORT_CLADES];
+    let mut trees = vec![0; SUPPORT_TREES];
+    let mut majority = vec![0; SUPPORT_OUT];
+    let size = support_into(text, &mut clades, &mut trees, &mut majority)?;
+    majority.truncate(size.bytes);
+    Ok(Support {
+        clades: clades.into_iter().zip(trees).take(size.clades).collect(),
+        trees: size.trees,
+        majority,
+    })
 }
 
 /// What the pair lister prints for a text: the sheet of its trees, or the line of its refusal.

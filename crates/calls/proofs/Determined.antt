@@ -3,14 +3,13 @@
 use mathlib.Core.Path.{_≡_, refl, sym, ap, ap₂, _∙_}
 use mathlib.Core.List.{List}
 use Prim.Native.Nat.{ℕ}
-use Rattle.meaning.specs.Answer.{Answer, Outcome, TableSize, TableMemory, GraphSize, GraphMemory, FirstsMemory, IslandsMemory}
+use Rattle.meaning.specs.Answer.{Outcome, TableSize, TableMemory, GraphSize, GraphMemory, FirstsMemory, IslandsMemory}
 use Rattle.meaning.specs.Calls.{formCall, cutCall, PairCall, tableCall, InterchangeCall, ChoosingCall, IslandsCall}
 use Rattle.meaning.specs.Copies.{Choice}
 use Rattle.meaning.specs.Sheet.{SheetCall}
 use Rattle.meaning.proofs.Determined.{pair-determined, lists-determined, islands-determined, sheet-call-determined as sheet-determined}
 use Rattle.meaning.proofs.Logic.{clash}
-use Rattle.reading.specs.declared.Refusal.{Refusal}
-use Rattle.reading.specs.Paper.{refusalOf}
+use Rattle.reading.proofs.Steps.{refusal-one}
 use Rattle.calls.specs.Paper.{textAnswer, textOutcome, pairAnswer, tableAnswer, tableOutcome, graphAnswer, graphOutcome, firstsOutcome, islandsOutcome}
 use Rattle.calls.specs.declared.TextAnswer.{TextAnswer}
 use Rattle.calls.specs.declared.TextAnswer.the-variants.{Written, Refused}
@@ -20,13 +19,6 @@ use Rattle.calls.specs.declared.TableAnswer.{TableAnswer}
 use Rattle.calls.specs.declared.TableAnswer.the-variants as table
 use Rattle.calls.specs.declared.GraphAnswer.{GraphAnswer}
 use Rattle.calls.specs.declared.GraphAnswer.the-variants as graph
-
--- refusals of the same number, text and place are the same
-same-fields : {n m i j p q : ℕ} → n ≡ m → i ≡ j → p ≡ q → _≡_ {A = Refusal} (record { number = n; text = i; place = p }) (record { number = m; text = j; place = q })
-same-fields e f g = rw (e, f, g)
-
-pub refusal-one : {A : Type 0} {x y : Refusal} → _≡_ {A = Answer A} (refusalOf x) (refusalOf y) → x ≡ y
-refusal-one e = same-fields (cc) (cc) (cc)
 
 -- an answer is its paper's numbers and values
 pub text-one : (r r′ : TextAnswer) → textAnswer r ≡ textAnswer r′ → r ≡ r′

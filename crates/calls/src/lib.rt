@@ -1,15 +1,14 @@
 // The public calls. None asks anything of its caller: what cannot be answered is refused, and a refusal changes no lent cell.
 use held::Table;
 use held::Tree;
+use lent::enough;
 use links::Copies;
 use links::Link;
 use reading::Refusal;
 use reading::Step;
 use sheet::Sheet;
 ghost use mathlib.Core.Path.{_≡_};
-ghost use mathlib.Core.Bool.{_&&_};
 ghost use Prim.Native.Nat.{_≤_};
-ghost use lib.Dec.{leb};
 ghost use lib.ListN.{length};
 ghost use Rattle.meaning.specs.Tree.{Tree as Topology};
 ghost use Rattle.meaning.specs.Interchange.{OneInterchange};
@@ -42,16 +41,6 @@ fn refusal_at_zero(number: u8, text: u8) -> Refusal
         text,
         place: 0,
     }
-}
-
-// Whether a slice of `len` cells has the stated size, and the others have theirs.
-fn enough(least: usize, len: usize, others: bool) -> bool
-    ensures { λ r. ⌜ r ≡ (leb least len && others) ⌝ }
-{
-    if len < least {
-        return false;
-    }
-    others
 }
 
 // Form call: the canonical text of the one tree of s, from the start of out on.

@@ -29,7 +29,7 @@ pub fn note(m: &mut [u64; Tree::MAX_NODES], n: &[u8])
 }
 
 // The labels of a tree as one number, the clade of its root.
-fn labels(tree: Tree) -> u64
+pub fn labels(tree: Tree) -> u64
     requires { ⌜ Kept tree ⌝ }
     ensures { λ r. ⌜ ((t : Topology) → Keeps tree t → r ≡ clade (canon t)) ⌝ }
 {

@@ -1,9 +1,21 @@
-// Lent memory: runs of elements copied, cleared, compared and counted.
+// Lent memory: slices measured, and runs of elements copied, cleared, compared and counted.
 ghost use mathlib.Core.Path.{_≡_};
+ghost use mathlib.Core.Bool.{_&&_};
 ghost use Prim.Native.Nat.{_+_, _≤_};
+ghost use lib.Dec.{leb};
 ghost use lib.ListN.{length, take, drop, replicate};
 ghost use Rattle.lent.specs.Runs.{Wrote, SameRun, Common, Says};
 ghost use Rattle.lent.specs.Tallies.{TallyRoom, Tallied};
+
+// Whether a slice of `len` cells has the stated size, and the others have theirs.
+pub fn enough(least: usize, len: usize, others: bool) -> bool
+    ensures { λ r. ⌜ r ≡ (leb least len && others) ⌝ }
+{
+    if len < least {
+        return false;
+    }
+    others
+}
 
 pub fn wide(x: u8) -> usize
     ensures { λ r. ⌜ r ≡ x ⌝ }

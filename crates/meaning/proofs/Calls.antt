@@ -146,8 +146,8 @@ table-tells s =
     limited-tells 0 s (at-zero tt)
     (answered-tells 0 (readTable s) (λ ts p e. (table-good s ts p e, table-iff ts s .0 (p, e))) (λ n p e. read-line s (placed-among tt (table-refused s n p e))))
 
--- the table call, and the calls that list pairs
-lent-table-tells : (b : Bool) (s : List ℕ) → Tells (λ ts. AllGood ts × TableText ts s) (Line tableCallRefusals s) (lent b (tableRead s))
+-- the calls that read a table and are lent memory
+pub lent-table-tells : (b : Bool) (s : List ℕ) → Tells (λ ts. AllGood ts × TableText ts s) (Line tableCallRefusals s) (lent b (tableRead s))
 lent-table-tells b s = lent-tells b (at-zero tt) (more-lines tt (table-tells s))
 
 pub table-call-tells : (s : List ℕ) (memory : TableMemory) → Tells (λ ts. AllGood ts × TableText ts s) (Line tableCallRefusals s) (tableCallRead s memory)

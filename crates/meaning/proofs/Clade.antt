@@ -43,7 +43,7 @@ pub label-iff : {t : Tree} → Good t → (l : ℕ) → HasLabel l (clade t) ↔
 label-iff {t = leaf n} G = leaf-exact n (G .small n tip .0)
 label-iff {t = fork a b} G = fork-exact a b (label-iff (good-first G)) (label-iff (good-second G)) (G .distinct)
 
-children-clear : {a b : Tree} → Good (fork a b) → Clear (clade a) (clade b)
+pub children-clear : {a b : Tree} → Good (fork a b) → Clear (clade a) (clade b)
 children-clear {a} {b} G = clear-children a b (label-iff (good-first G)) (label-iff (good-second G)) (G .distinct)
 
 -- and fits into 64 bits
@@ -58,7 +58,7 @@ clade-≈ (same p q) = omega (arith, clade-≈ p, clade-≈ q)
 clade-≈ (swap p q) = omega (arith, clade-≈ p, clade-≈ q)
 
 -- ---- two clades
-under-clade : {s t : Tree} → Good s → Good t → Under (clade s) (clade t) ↔ (s ⊆ t)
+pub under-clade : {s t : Tree} → Good s → Good t → Under (clade s) (clade t) ↔ (s ⊆ t)
 under-clade {s} {t} G H =
     iff-then (under-iff (clade s) (clade t)) (λ f l i. label-iff H l .0 (f l (label-iff G l .1 i)), λ f l h. label-iff H l .1 (f l (label-iff G l .0 h)))
 
@@ -79,7 +79,7 @@ disjoint-clade {s} {t} G H =
     (λ f l i j. f l (label-iff G l .1 i) (label-iff H l .1 j), λ f l h k. f l (label-iff G l .0 h) (label-iff H l .0 k))
 
 -- ---- the smallest label
-clade-some : (t : Tree) → 0 < clade t
+pub clade-some : (t : Tree) → 0 < clade t
 clade-some (leaf n) = pow-pos (n - 1)
 clade-some (fork a b) = omega (arith, clade-some a)
 

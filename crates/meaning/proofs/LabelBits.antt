@@ -14,7 +14,7 @@ use Rattle.meaning.proofs.Logic.{T-eq}
 
 -- ---- bits
 -- a bit is 0 or 1
-digit-le : (l x : ℕ) → digit l x ≤ 1
+pub digit-le : (l x : ℕ) → digit l x ≤ 1
 unfolding digit
 digit-le zero x = omega arith
 digit-le (suc zero) x = omega arith
@@ -27,7 +27,7 @@ digit-cases l x = go (digit l x) refl
     go zero e = inl e
     go (suc d) e = inr (omega (arith, digit-le l x))
 
-digit-zero : (l : ℕ) → digit l 0 ≡ 0
+pub digit-zero : (l : ℕ) → digit l 0 ≡ 0
 unfolding digit
 digit-zero zero = refl
 digit-zero (suc zero) = refl
@@ -37,7 +37,7 @@ digit-zero (suc (suc k)) = digit-zero (suc k)
 and-half : (x y : ℕ) → bitAnd x y / 2 ≡ bitAnd (x / 2) (y / 2)
 and-half x y = omega (arith, and-step x y)
 
-digit-and : (l x y : ℕ) → digit l (bitAnd x y) ≡ min (digit l x) (digit l y)
+pub digit-and : (l x y : ℕ) → digit l (bitAnd x y) ≡ min (digit l x) (digit l y)
 unfolding digit
 digit-and zero x y = omega arith
 digit-and (suc zero) x y = omega (arith, and-step x y)
@@ -69,7 +69,7 @@ under-iff x y = (λ u l h. omega (arith, u .keeps l, digit-le l y), λ f. record
     go l f (inr h) = omega (arith, f l h)
 
 -- and so without the lowest bit
-clear-half : {x y : ℕ} → Clear x y → Clear (x / 2) (y / 2)
+pub clear-half : {x y : ℕ} → Clear x y → Clear (x / 2) (y / 2)
 unfolding digit
 clear-half {x} {y} c = record { once = go }
   where
@@ -77,7 +77,7 @@ clear-half {x} {y} c = record { once = go }
     go zero = omega arith
     go (suc k) = c .once (suc (suc k))
 
-under-half : {x y : ℕ} → Under x y → Under (x / 2) (y / 2)
+pub under-half : {x y : ℕ} → Under x y → Under (x / 2) (y / 2)
 unfolding digit
 under-half {x} {y} u = record { keeps = go }
   where
@@ -86,7 +86,7 @@ under-half {x} {y} u = record { keeps = go }
     go (suc k) = u .keeps (suc (suc k))
 
 -- a part is no larger as a number, so numbers with the same labels are equal
-under-le : (x y : ℕ) → Under x y → x ≤ y
+pub under-le : (x y : ℕ) → Under x y → x ≤ y
 unfolding digit
 under-le = bin-ind (λ (x : ℕ). (y : ℕ) → Under x y → x ≤ y) (λ y u. omega arith) (λ x ih y u. omega (arith, u .keeps 1, ih (y / 2) (under-half u)))
 
@@ -116,7 +116,7 @@ disjoint-iff c d = (
 )
 
 -- ---- sums of clear numbers
-digit-add : (l x y : ℕ) → Clear x y → digit l (x + y) ≡ digit l x + digit l y
+pub digit-add : (l x y : ℕ) → Clear x y → digit l (x + y) ≡ digit l x + digit l y
 unfolding digit
 digit-add zero x y c = omega arith
 digit-add (suc zero) x y c = omega (arith, c .once 1)
@@ -144,10 +144,10 @@ pub add-lt : {x y : ℕ} (k : ℕ) → Clear x y → x < 2 ^ k → y < 2 ^ k →
 add-lt {x} {y} k c h g = subst (λ (z : ℕ). z < 2 ^ k) (or-disjoint x y (and-none c)) (or-lt k x y h g)
 
 -- ---- powers of two
-half-pow : (j : ℕ) → 2 ^ suc j / 2 ≡ 2 ^ j
+pub half-pow : (j : ℕ) → 2 ^ suc j / 2 ≡ 2 ^ j
 half-pow j = omega (arith, pow-suc 2 j)
 
-pow-has : (j : ℕ) → HasLabel (suc j) (2 ^ j)
+pub pow-has : (j : ℕ) → HasLabel (suc j) (2 ^ j)
 unfolding digit
 pow-has zero = refl
 pow-has (suc j) = ap (digit (suc j)) (half-pow j) ∙ pow-has j

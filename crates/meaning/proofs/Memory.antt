@@ -32,7 +32,7 @@ written-behind xs slice k h =
     ap (λ (j : ℕ). drop j (written xs slice)) e ∙ drop-append-add xs (drop (length xs) slice) (k - length xs) ∙ drop-drop (k - length xs) (length xs) slice ∙ sym (ap (λ (j : ℕ). drop j slice) e)
 
 -- what a call leaves holds where it holds of the memory at entry, and of what is done with an accepted text
-concluded : {A B M : Type 0} (Q : M → Type 0) (a : Answer A) (memory : M) (done : A → Outcome B M) → Q memory → ((x : A) → a ≡ accepted x → Q (done x .memory)) → Q (conclude a memory done .memory)
+pub concluded : {A B M : Type 0} (Q : M → Type 0) (a : Answer A) (memory : M) (done : A → Outcome B M) → Q memory → ((x : A) → a ≡ accepted x → Q (done x .memory)) → Q (conclude a memory done .memory)
 concluded Q (accepted x) memory done h f = f x refl
 concluded Q (refusal n i p) memory done h f = h
 

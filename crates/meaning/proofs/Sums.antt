@@ -178,6 +178,14 @@ total-le f (x ∷ xs) ys a g =
     let m = g x (List·Memᴰ·head refl) in
     omega (arith, without-total f m, total-le f xs (without m) (a .1) (λ l n. without-mem m (λ e. a .0 (Memᴰ·cast (sym e) n)) (g l (List·Memᴰ·tail n))))
 
+ones : (xs : List ℕ) → total (λ _. 1) xs ≡ length xs
+ones [] = refl
+ones (x ∷ xs) = omega (arith, ones xs)
+
+-- and are no more than its members
+pub no-longer : (xs ys : List ℕ) → NoDup xs → ((l : ℕ) → List·Memᴰ l xs → List·Memᴰ l ys) → length xs ≤ length ys
+no-longer xs ys once all = omega (arith, total-le (λ _. 1) xs ys once all, ones xs, ones ys)
+
 -- n down to 1
 unfoldable pub oneTo : ℕ → List ℕ
 oneTo zero = []
@@ -192,15 +200,11 @@ oneTo-mem (suc n) l h k = go (ℕ-discrete l (suc n)) (λ q. oneTo-mem n l h q)
     go (yes e) f = List·Memᴰ·head e
     go (no q) f = List·Memᴰ·tail (f (omega arith))
 
--- numbers from 1 to n that occur once are at most n
-ones : (xs : List ℕ) → total (λ _. 1) xs ≡ length xs
-ones [] = refl
-ones (x ∷ xs) = omega (arith, ones xs)
-
 oneTo-length : (n : ℕ) → length (oneTo n) ≡ n
 unfolding oneTo
 oneTo-length zero = refl
 oneTo-length (suc n) = ap suc (oneTo-length n)
 
+-- numbers from 1 to n that occur once are at most n
 pub few : (n : ℕ) (xs : List ℕ) → NoDup xs → ((l : ℕ) → List·Memᴰ l xs → (1 ≤ l) × (l ≤ n)) → length xs ≤ n
-few n xs once range = omega (arith, total-le (λ _. 1) xs (oneTo n) once (λ l m. oneTo-mem n l (range l m .0) (range l m .1)), ones xs, ones (oneTo n), oneTo-length n)
+few n xs once range = omega (arith, no-longer xs (oneTo n) once (λ l m. oneTo-mem n l (range l m .0) (range l m .1)), oneTo-length n)

@@ -1,4 +1,4 @@
--- What the calls answer, in document 01's numbers and values, and what they leave in lent memory. In words: docs/RULES.md, 'The nine calls'.
+-- What the calls answer, in document 01's numbers and values, and what they leave in lent memory. In words: docs/RULES.md, 'The calls'.
 -- Assumes nothing.
 use mathlib.Core.List.{List, _++_}
 use Prim.Native.Nat.{ℕ}

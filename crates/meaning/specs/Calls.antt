@@ -1,4 +1,4 @@
--- Eight of the nine calls (the ninth is in Sheet): from the texts, the cut number and the lent memory at entry to the answer and the memory at exit. In words: docs/RULES.md, 'The nine calls'.
+-- The calls, but for the sheet call (in Sheet) and the support call (in the crate families): from texts and lent memory at entry to the answer and the memory at exit. In words: docs/RULES.md, 'The calls'.
 -- Assumes nothing.
 use mathlib.Core.Path.{_≡_}
 use mathlib.Core.Bool.{Bool, true, false, cond}

@@ -1,4 +1,4 @@
--- The sizes of document 01, each once. In words: docs/RULES.md, 'Tree text' and 'The nine calls'.
+-- The sizes of document 01, each once. In words: docs/RULES.md, 'Tree text' and 'The calls'.
 -- Assumes nothing.
 use Prim.Native.Nat.{ℕ, _+_, _-_, _*_, _/_}
 

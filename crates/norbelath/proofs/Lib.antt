@@ -1,3 +1,4 @@
 pub mod Determined
+pub mod LongReplies
 pub mod Numbered
 pub mod Replies

@@ -15,6 +15,8 @@ use Rattle.meaning.specs.Listing.{Pair}
 use Rattle.meaning.specs.Sheet.{SheetCall, gives}
 use Rattle.meaning.proofs.Calls.{Tells, accepts, denies, tells-refusal, form-tells, cut-tells, pair-tells, table-call-tells, graph-tells, firsts-tells, islands-tells, sheet-call-tells}
 use Rattle.meaning.proofs.Lists.{every-mem}
+use Rattle.families.specs.SupportCall.{SupportMemory, supportOf, supportCall}
+use Rattle.families.proofs.SupportCall.{support-tells}
 use Rattle.norbelath.specs.Coded.{Numbered}
 
 -- 0 is none of the lines
@@ -35,6 +37,9 @@ cut-numbered s c out = concluded out (λ t. textOf (forest (cutAt t c)) out) (cu
 
 pub table-numbered : (s : List ℕ) (memory : TableMemory) → Numbered (tableCall s memory .answer)
 table-numbered s memory = concluded memory (λ ts. tableOf ts memory) (table-call-tells s memory) (λ n i p l. from-one tt (l .number)) (λ ts. tt)
+
+pub support-numbered : (s : List ℕ) (memory : SupportMemory) → Numbered (supportCall s memory .answer)
+support-numbered s memory = concluded memory (λ ts. supportOf ts memory) (support-tells s memory) (λ n i p l. from-one tt (l .number)) (λ ts. tt)
 
 pub pair-numbered : {s s′ : List ℕ} {a : Answer Bool} → PairCall s s′ a → Numbered a
 pair-numbered (is-apart t u e h) = tt

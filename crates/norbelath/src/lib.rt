@@ -1,5 +1,8 @@
-// The nine calls for programs in C and Rust. None asks anything of its caller. Each answers by a result and two lent
-// numbers: `coded` in specs/ says which answer they are, and include/norbelath.h says it to a caller.
+// The calls for programs in C and Rust. None asks anything of its caller. Each answers by a result and lent numbers, two or, of
+// the support call, three: `coded` and `supportValue` in specs/ say which answer they are, and include/norbelath.h says it to a
+// caller.
+pub mod clade_exports;
+
 use calls::GraphAnswer;
 use calls::PairAnswer;
 use calls::TableAnswer;

@@ -1,14 +1,21 @@
--- What a step that meets `Read` says: it goes on with what was accepted, or it refuses as reading does.
+-- What a step that meets `Read` says: it goes on with what was accepted, or it refuses as reading does; and that a refusal is its three numbers.
 -- Assumes nothing.
 use mathlib.Core.Path.{_≡_, sym, ap, _∙_}
 use Prim.Native.Nat.{ℕ}
 use Rattle.meaning.specs.Reading.{Read, got, refused, andThen}
-use Rattle.meaning.specs.Answer.{refusal}
+use Rattle.meaning.specs.Answer.{Answer, refusal}
 use Rattle.meaning.proofs.Logic.{clash}
-use Rattle.reading.specs.Paper.{Going, goesOn, stepAnswer, StepMeets, goes-on, refuses}
+use Rattle.reading.specs.Paper.{refusalOf, Going, goesOn, stepAnswer, StepMeets, goes-on, refuses}
 use Rattle.reading.specs.declared.Step.{Step}
 use Rattle.reading.specs.declared.Refusal.{Refusal}
 use Rattle.reading.specs.declared.Step.the-variants.{Next, Refused}
+
+-- refusals of the same number, text and place are the same
+same-fields : {n m i j p q : ℕ} → n ≡ m → i ≡ j → p ≡ q → _≡_ {A = Refusal} (record { number = n; text = i; place = p }) (record { number = m; text = j; place = q })
+same-fields e f g = rw (e, f, g)
+
+pub refusal-one : {A : Type 0} {x y : Refusal} → _≡_ {A = Answer A} (refusalOf x) (refusalOf y) → x ≡ y
+refusal-one e = same-fields (cc) (cc) (cc)
 
 -- where reading goes on is one place, and one size
 pub going-is : {p q k n : ℕ} → goesOn p k ≡ goesOn q n → (p ≡ q) × (k ≡ n)

@@ -1,4 +1,6 @@
 // Runs the samples that are not proved ones, and the edges of the calls, and prints a line for each.
+mod clade_samples;
+
 use calls::GraphAnswer;
 use calls::PairAnswer;
 use calls::TableAnswer;
@@ -361,6 +363,7 @@ fn main() {
     pairs();
     tables();
     graphs();
+    clade_samples::supports();
     sheets();
     short_slices();
     long_texts();

@@ -1,8 +1,9 @@
 //! Each call beside the independent implementation: its answer, and what it leaves in lent memory.
 
-use norbelath::{Copies, Graph, GraphSize, Interchanges, Islands, Refusal, Table, TableSize};
-use norbelath::{CUT_OUT, FORM_OUT, GRAPH_COUNTS, GRAPH_FIRSTS, GRAPH_PAIRS};
-use norbelath::{ISLANDS, SHEET_OUT, TABLE_ENDS, TABLE_TEXTS};
+use norbelath::{Copies, Graph, GraphSize, Interchanges, Islands, Refusal, Support, SupportSize};
+use norbelath::{Table, TableSize, CUT_OUT, FORM_OUT, GRAPH_COUNTS, GRAPH_FIRSTS, GRAPH_PAIRS};
+use norbelath::{ISLANDS, SHEET_OUT, SUPPORT_CLADES, SUPPORT_OUT, SUPPORT_TREES};
+use norbelath::{TABLE_ENDS, TABLE_TEXTS};
 
 use crate::generator::Random;
 
@@ -103,6 +104,41 @@ fn length(random: &mut Random, short: bool, least: usize) -> usize {
         too_short(random, least)
     } else {
         enough(random, least)
+    }
+}
+
+/// The lent slices of the support call.
+struct LentSupport {
+    clades: Lent<u64>,
+    trees: Lent<u16>,
+    out: Lent<u8>,
+}
+
+impl LentSupport {
+    /// The slices, of which some are too short.
+    fn new(random: &mut Random, short: [bool; 3]) -> LentSupport {
+        let len = length(random, short[0], SUPPORT_CLADES);
+        let clades = Lent::new(random, len, |x| x);
+        let len = length(random, short[1], SUPPORT_TREES);
+        let trees = Lent::new(random, len, |x| x as u16);
+        let len = length(random, short[2], SUPPORT_OUT);
+        let out = Lent::new(random, len, |x| x as u8);
+        LentSupport { clades, trees, out }
+    }
+
+    fn call(&mut self, text: &[u8]) -> Result<SupportSize, Refusal> {
+        norbelath::support_into(
+            text,
+            &mut self.clades.slice,
+            &mut self.trees.slice,
+            &mut self.out.slice,
+        )
+    }
+
+    /// The slices begin with these and are unchanged behind them.
+    fn holds(&self, clades: &[(u64, u16)], majority: &[u8]) -> bool {
+        let (clades, trees): (Vec<u64>, Vec<u16>) = clades.iter().copied().unzip();
+        self.clades.holds(&clades) && self.trees.holds(&trees) && self.out.holds(majority)
     }
 }
 
@@ -314,7 +350,37 @@ impl Comparison {
         })
     }
 
-    /// The table call and the calls that list pairs, each with any one of its slices too short, or all.
+    /// Gives the answer, for tests that want to see clades.
+    pub fn support(&mut self, text: &[u8]) -> Option<Support> {
+        let expected = plain::support(text)
+            .map(|x| Support {
+                clades: x.clades,
+                trees: x.trees,
+                majority: x.majority,
+            })
+            .map_err(refusal);
+        let returned = norbelath::support(text);
+        assert_eq!(returned, expected, "{}", shown(text));
+
+        let mut lent = LentSupport::new(&mut self.random, [false; 3]);
+        let answer = lent.call(text);
+        self.count(&answer);
+        let size = expected.as_ref().map(|x| SupportSize {
+            clades: x.clades.len(),
+            bytes: x.majority.len(),
+            trees: x.trees,
+        });
+        assert_eq!(answer, size.map_err(|&x| x), "{}", shown(text));
+        let written = match &expected {
+            Ok(x) => lent.holds(&x.clades, &x.majority),
+            Err(_) => lent.holds(&[], &[]),
+        };
+        assert!(written, "{}", shown(text));
+        returned.ok()
+    }
+
+    /// The table call, the calls that list pairs and the support call, each with any one of its slices too short, or
+    /// all.
     pub fn short_tables(&mut self, text: &[u8]) {
         for (one, other) in [(true, false), (false, true), (true, true)] {
             let len = length(&mut self.random, one, TABLE_TEXTS);
@@ -331,6 +397,7 @@ impl Comparison {
         }
         self.short_lists(text, INTERCHANGES);
         self.short_lists(text, ISLAND_GRAPH);
+        self.short_support(text);
     }
 
     fn short_lists<const N: usize>(&mut self, text: &[u8], into: ListInto<N>) {
@@ -339,6 +406,17 @@ impl Comparison {
             let mut lent = self.lent_lists(short);
             let answer = into(text, slices(&mut lent));
             assert!(lent.iter().all(|x| x.holds(&[])), "{}", shown(text));
+            assert_eq!(answer, Err(SHORT), "{}", shown(text));
+            self.count(&answer);
+        }
+    }
+
+    fn short_support(&mut self, text: &[u8]) {
+        for chosen in 0..=3 {
+            let short = std::array::from_fn(|i| i == chosen || chosen == 3);
+            let mut lent = LentSupport::new(&mut self.random, short);
+            let answer = lent.call(text);
+            assert!(lent.holds(&[], &[]), "{}", shown(text));
             assert_eq!(answer, Err(SHORT), "{}", shown(text));
             self.count(&answer);
         }

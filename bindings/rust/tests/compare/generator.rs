@@ -72,6 +72,12 @@ impl Tree {
         tree
     }
 
+    /// A comb with these labels.
+    fn comb(labels: &[u8]) -> Tree {
+        let leaves = labels.iter().map(|&label| Leaf(label));
+        leaves.reduce(fork).expect("a label or more")
+    }
+
     /// The number of nodes. Nodes are numbered from the root on, a fork before its children.
     pub fn nodes(&self) -> usize {
         match self {
@@ -183,6 +189,19 @@ pub fn chains(random: &mut Random, labels: &[u8], trees: usize, longest: usize) 
     made.truncate(trees);
     random.shuffle(&mut made);
     made
+}
+
+/// 160 trees of 64 leaves that share no clade but the whole, so that there are as many clades as a table can have.
+///
+/// Each is two combs of 32 leaves, and the labels of a comb go round 1 to 64 by an odd number below 32: its first 2 to
+/// 32 labels are then those of no comb with another start or number.
+pub fn most_clades() -> Vec<Tree> {
+    let two_combs = |i: usize| {
+        let (start, by) = (i % 32, 1 + 2 * (i / 32));
+        let round: Vec<u8> = (0..64).map(|k| 1 + ((start + k * by) % 64) as u8).collect();
+        fork(Tree::comb(&round[..32]), Tree::comb(&round[32..]))
+    };
+    (0..160).map(two_combs).collect()
 }
 
 fn token(random: &mut Random, blanks: usize, token: &[u8], out: &mut Vec<u8>) {

@@ -4,8 +4,8 @@ mod comparison;
 mod generator;
 
 use comparison::Comparison;
-use generator::{chains, damage, labels, Random, Tree};
-use norbelath::{Graph, Islands, MAX_TEXT, MAX_TREES};
+use generator::{chains, damage, labels, most_clades, Random, Tree};
+use norbelath::{Graph, Islands, Support, MAX_TEXT, MAX_TREES, SUPPORT_CLADES};
 
 /// Every text of up to so many of these bytes.
 fn every_text(bytes: &[u8], most: usize) -> Vec<Vec<u8>> {
@@ -52,6 +52,7 @@ fn every_short_text() {
     for (i, text) in every_text(b"(),;12 0", 5).iter().enumerate() {
         compare.form(text);
         compare.cut(text, i as u64 % 4);
+        compare.support(text);
         compare.pair(text, b"(2,1);");
         compare.pair(b"1;", text);
     }
@@ -65,6 +66,7 @@ fn every_short_table() {
     for text in every_text(b",;12 0", 5) {
         compare.table(&text);
         compare.graphs(&text);
+        compare.support(&text);
     }
     let least = [(0, 100), (1, 5_000), (2, 5_000), (5, 50)];
     compare.met("every short table", &least);
@@ -135,6 +137,7 @@ fn damaged_texts() {
         compare.pair(&text, &whole);
         compare.pair(&whole, &text);
         compare.pair(&text, &other);
+        compare.support(&text);
     }
     let least = [
         (0, 4_000),
@@ -176,6 +179,7 @@ fn tables_of_trees() {
         }
         compare.table(&text);
         compare.graphs(&text);
+        compare.support(&text);
     }
     let least = [(0, 4_000), (1, 1_000), (2, 500), (3, 50), (5, 500), (6, 50)];
     compare.met("tables of trees", &least);
@@ -225,8 +229,9 @@ fn islands_of_trees() {
         let answer = compare.islands(&text).expect("a table of trees");
         several += usize::from(groups(&answer) > 1);
         chained += joined_by_chains(&answer);
+        compare.support(&text);
     }
-    compare.met("islands of trees", &[(0, 1_000)]);
+    compare.met("islands of trees", &[(0, 2_000)]);
     println!("{several} tables of several islands, {chained} trees joined by chains");
     assert!(several >= 500 && chained >= 5_000);
 }
@@ -283,12 +288,88 @@ fn copies_of_trees() {
             .expect("a table of trees");
         let islands = compare.islands(&text).expect("a table of trees");
         compare.interchanges(&text);
+        compare.support(&text);
         copied.note(&merged, &apart, &islands);
     }
-    compare.met("copies of trees", &[(0, 5_000)]);
+    compare.met("copies of trees", &[(0, 6_000)]);
     println!("{copied:?}");
     assert!(copied.tables >= 400 && copied.third >= 10_000);
     assert!(copied.alone >= 5_000 && copied.joined >= 3_000);
+}
+
+/// What the clades of tables showed, so that a test can tell that it showed enough.
+#[derive(Debug, Default)]
+struct Supported {
+    /// Tables of three or more leaves whose majority tree has one fork, with every label on it.
+    stars: usize,
+    /// Tables whose majority tree has more forks than that, and one of them more than two children.
+    between: usize,
+    /// Tables whose majority tree is binary, though the trees are not all copies.
+    binary: usize,
+    /// Clades of just half of the trees.
+    halves: usize,
+    /// Clades that stand behind another of as many trees.
+    ties: usize,
+}
+
+impl Supported {
+    fn note(&mut self, leaves: usize, x: &Support) {
+        let twice = |&(_, trees): &(u64, u16)| 2 * usize::from(trees);
+        let kept = x.clades.iter().filter(|&c| twice(c) > x.trees).count();
+        self.stars += usize::from(leaves > 2 && kept == 1);
+        self.between += usize::from(kept > 1 && kept < leaves - 1);
+        self.binary += usize::from(kept == leaves - 1 && x.clades.len() > kept);
+        self.halves += x.clades.iter().filter(|&c| twice(c) == x.trees).count();
+        self.ties += x.clades.windows(2).filter(|c| c[0].1 == c[1].1).count();
+    }
+}
+
+/// Tables of trees that are a few moves from one tree, so that many have the same clades; small ones and full ones.
+#[test]
+fn support_of_trees() {
+    let mut compare = Comparison::new(14);
+    let mut supported = Supported::default();
+    for turn in 0..2_000 {
+        let trees = match turn % 20 {
+            0 => MAX_TREES,
+            _ => 1 + compare.random.below(30),
+        };
+        let leaves = 1 + compare.random.below([7, 20, 64][turn % 3]);
+        let set = labels(&mut compare.random, leaves);
+        let middle = Tree::random(&mut compare.random, &set);
+        let most_moves = compare.random.pick(&[1, 2, 4, 8, 40]);
+        let mut text = Vec::new();
+        for _ in 0..trees {
+            let mut tree = middle.clone();
+            for _ in 0..compare.random.below(most_moves + 1) {
+                tree = tree.moved(&mut compare.random);
+            }
+            text.extend(tree.text(&mut compare.random, 2));
+        }
+        let answer = compare.support(&text).expect("a table of trees");
+        supported.note(leaves, &answer);
+    }
+    compare.met("support of trees", &[(0, 2_000)]);
+    println!("{supported:?}");
+    assert!(supported.stars >= 200 && supported.between >= 400);
+    assert!(supported.binary >= 500 && supported.halves >= 1_000 && supported.ties >= 100_000);
+}
+
+/// As many clades as a table can have.
+#[test]
+fn support_of_most_clades() {
+    let mut compare = Comparison::new(15);
+    for blanks in [0, 2] {
+        let mut trees = most_clades();
+        compare.random.shuffle(&mut trees);
+        let mut text = Vec::new();
+        for tree in trees {
+            text.extend(tree.text(&mut compare.random, blanks));
+        }
+        let answer = compare.support(&text).expect("a table of trees");
+        assert_eq!(answer.clades.len(), SUPPORT_CLADES);
+    }
+    compare.met("support of most clades", &[(0, 2)]);
 }
 
 /// What the pair lister prints: small tables, whole and damaged, the largest, and texts around the limit.
@@ -336,11 +417,13 @@ fn full_tables() {
         }
         compare.table(&text);
         compare.graphs(&text);
+        compare.support(&text);
         text.extend(b" \t;");
         compare.table(&text);
         compare.graphs(&text);
+        compare.support(&text);
     }
-    compare.met("full tables", &[(0, 12), (6, 12)]);
+    compare.met("full tables", &[(0, 14), (6, 14)]);
 }
 
 /// Text lengths around the limit. Too long goes before anything in the text, and too short a slice before that.
@@ -365,9 +448,10 @@ fn long_texts() {
         compare.pair(&text, &text);
         compare.table(&text);
         compare.graphs(&text);
+        compare.support(&text);
         compare.short_tables(&text);
     }
-    let least = [(0, 100), (1, 100), (7, 2_500), (8, 500)];
+    let least = [(0, 100), (1, 100), (7, 3_000), (8, 500)];
     compare.met("long texts", &least);
 }
 
@@ -395,6 +479,7 @@ fn deep_texts() {
         compare.pair(&text, b"1;");
         compare.table(&text);
         compare.graphs(&text);
+        compare.support(&text);
     }
     let least = [(0, 1_000), (2, 1_000), (3, 1_000), (4, 5_000)];
     compare.met("deep texts", &least);
@@ -411,5 +496,5 @@ fn short_slices() {
         }
         compare.short_tables(&text);
     }
-    compare.met("short slices", &[(7, 46_000)]);
+    compare.met("short slices", &[(7, 54_000)]);
 }

@@ -1,8 +1,8 @@
--- `calls::enough` meets its contract.
+-- `lent::enough` meets its contract.
 -- Assumes nothing.
 use borrow.Author.Tests.{le-leb, lt-leb}
-use Rattle.calls.proofs.enough.Statement.{statement}
-use Rattle.calls.proofs.enough.Tie as tie
+use Rattle.lent.proofs.enough.Statement.{statement}
+use Rattle.lent.proofs.enough.Tie as tie
 
 returns : tie.Need-returns
 returns c = rw (lt-leb (c .before .args .least) (c .before .args .len) (c .if1 .taken))

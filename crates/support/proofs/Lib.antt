@@ -1,0 +1,5 @@
+pub mod Counting
+pub mod Grouping
+pub mod Pooled
+pub mod Supported
+pub mod Supports
