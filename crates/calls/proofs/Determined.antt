@@ -1,24 +1,20 @@
--- Each call's promise determines its answer and the lent memory at exit.
+-- The promise of each of these calls determines its answer and the lent memory at exit.
 -- Assumes nothing.
 use mathlib.Core.Path.{_≡_, refl, sym, ap, ap₂, _∙_}
 use mathlib.Core.List.{List}
 use Prim.Native.Nat.{ℕ}
-use Rattle.meaning.specs.Answer.{Outcome, TableSize, TableMemory, GraphSize, GraphMemory, FirstsMemory, IslandsMemory}
-use Rattle.meaning.specs.Calls.{formCall, cutCall, PairCall, tableCall, InterchangeCall, ChoosingCall, IslandsCall}
-use Rattle.meaning.specs.Copies.{Choice}
-use Rattle.meaning.specs.Sheet.{SheetCall}
-use Rattle.meaning.proofs.Determined.{pair-determined, lists-determined, islands-determined, sheet-call-determined as sheet-determined}
+use Rattle.meaning.specs.Answer.{Outcome, TableSize, TableMemory}
+use Rattle.meaning.specs.Calls.{formCall, cutCall, PairCall, tableCall}
+use Rattle.meaning.proofs.Determined.{pair-determined}
 use Rattle.meaning.proofs.Logic.{clash}
 use Rattle.reading.proofs.Steps.{refusal-one}
-use Rattle.calls.specs.Paper.{textAnswer, textOutcome, pairAnswer, tableAnswer, tableOutcome, graphAnswer, graphOutcome, firstsOutcome, islandsOutcome}
+use Rattle.calls.specs.Paper.{textAnswer, textOutcome, pairAnswer, tableAnswer, tableOutcome}
 use Rattle.calls.specs.declared.TextAnswer.{TextAnswer}
 use Rattle.calls.specs.declared.TextAnswer.the-variants.{Written, Refused}
 use Rattle.calls.specs.declared.PairAnswer.{PairAnswer}
-use Rattle.calls.specs.declared.PairAnswer.the-variants as pair
 use Rattle.calls.specs.declared.TableAnswer.{TableAnswer}
+use Rattle.calls.specs.declared.PairAnswer.the-variants as pair
 use Rattle.calls.specs.declared.TableAnswer.the-variants as table
-use Rattle.calls.specs.declared.GraphAnswer.{GraphAnswer}
-use Rattle.calls.specs.declared.GraphAnswer.the-variants as graph
 
 -- an answer is its paper's numbers and values
 pub text-one : (r r′ : TextAnswer) → textAnswer r ≡ textAnswer r′ → r ≡ r′
@@ -38,9 +34,6 @@ form-call-determined s out e f = text-determined e f
 
 pub cut-call-determined : (s : List ℕ) (c : ℕ) (out : List ℕ) {r r′ : TextAnswer} {o o′ : List ℕ} → textOutcome r o ≡ cutCall s c out → textOutcome r′ o′ ≡ cutCall s c out → (r ≡ r′) × (o ≡ o′)
 cut-call-determined s c out e f = text-determined e f
-
-pub sheet-call-determined : (s out : List ℕ) {r r′ : TextAnswer} {o o′ : List ℕ} → SheetCall s out (textOutcome r o) → SheetCall s out (textOutcome r′ o′) → (r ≡ r′) × (o ≡ o′)
-sheet-call-determined s out e f = text-determined (sheet-determined e f) refl
 
 -- the table call
 pub table-one : (r r′ : TableAnswer) → tableAnswer r ≡ tableAnswer r′ → r ≡ r′
@@ -73,46 +66,3 @@ pair-one (pair.Refused x) (pair.Refused y) e = ap pair.Refused (refusal-one e)
 
 pub pair-call-determined : {s s′ : List ℕ} (r r′ : PairAnswer) → PairCall s s′ (pairAnswer r) → PairCall s s′ (pairAnswer r′) → r ≡ r′
 pair-call-determined r r′ h k = pair-one r r′ (pair-determined h k)
-
--- the calls that list pairs
-pub graph-one : (r r′ : GraphAnswer) → graphAnswer r ≡ graphAnswer r′ → r ≡ r′
-graph-one (graph.Listed k n) (graph.Listed j m) e =
-    let x : _≡_ {A = GraphSize} (record { trees = k; pairs = n }) (record { trees = j; pairs = m }) = cc in
-    ap₂ graph.Listed (ap (λ (z : GraphSize). z .trees) x) (ap (λ (z : GraphSize). z .pairs) x)
-graph-one (graph.Listed k n) (graph.Refused y) e = clash cc
-graph-one (graph.Refused x) (graph.Listed j m) e = clash cc
-graph-one (graph.Refused x) (graph.Refused y) e = ap graph.Refused (refusal-one e)
-
-pub interchange-call-determined : (s : List ℕ) (memory : GraphMemory) (r r′ : GraphAnswer) {pairs pairs′ counts counts′ : List ℕ}
-    → InterchangeCall s memory (graphOutcome r pairs counts) → InterchangeCall s memory (graphOutcome r′ pairs′ counts′) → (r ≡ r′) × (pairs ≡ pairs′) × (counts ≡ counts′)
-interchange-call-determined s memory r r′ e f =
-    let h = lists-determined e f in (
-      graph-one r r′ (ap (λ (x : Outcome GraphSize GraphMemory). x .answer) h),
-      ap (λ (x : Outcome GraphSize GraphMemory). x .memory .pairs) h,
-      ap (λ (x : Outcome GraphSize GraphMemory). x .memory .counts) h,
-    )
-
--- the graph call, with either choice
-pub graph-call-determined : (choice : Choice) (s : List ℕ) (memory : FirstsMemory) (r r′ : GraphAnswer) {pairs pairs′ counts counts′ firsts firsts′ : List ℕ}
-    → ChoosingCall choice s memory (firstsOutcome r pairs counts firsts) → ChoosingCall choice s memory (firstsOutcome r′ pairs′ counts′ firsts′)
-    → (r ≡ r′) × (pairs ≡ pairs′) × (counts ≡ counts′) × (firsts ≡ firsts′)
-graph-call-determined choice s memory r r′ e f =
-    let h = lists-determined e f in (
-      graph-one r r′ (ap (λ (x : Outcome GraphSize FirstsMemory). x .answer) h),
-      ap (λ (x : Outcome GraphSize FirstsMemory). x .memory .graph .pairs) h,
-      ap (λ (x : Outcome GraphSize FirstsMemory). x .memory .graph .counts) h,
-      ap (λ (x : Outcome GraphSize FirstsMemory). x .memory .firsts) h,
-    )
-
--- the islands call
-pub islands-call-determined : (s : List ℕ) (memory : IslandsMemory) (r r′ : GraphAnswer) {pairs pairs′ counts counts′ firsts firsts′ islands islands′ : List ℕ}
-    → IslandsCall s memory (islandsOutcome r pairs counts firsts islands) → IslandsCall s memory (islandsOutcome r′ pairs′ counts′ firsts′ islands′)
-    → (r ≡ r′) × (pairs ≡ pairs′) × (counts ≡ counts′) × (firsts ≡ firsts′) × (islands ≡ islands′)
-islands-call-determined s memory r r′ e f =
-    let h = islands-determined e f in (
-      graph-one r r′ (ap (λ (x : Outcome GraphSize IslandsMemory). x .answer) h),
-      ap (λ (x : Outcome GraphSize IslandsMemory). x .memory .lists .graph .pairs) h,
-      ap (λ (x : Outcome GraphSize IslandsMemory). x .memory .lists .graph .counts) h,
-      ap (λ (x : Outcome GraphSize IslandsMemory). x .memory .lists .firsts) h,
-      ap (λ (x : Outcome GraphSize IslandsMemory). x .memory .islands) h,
-    )

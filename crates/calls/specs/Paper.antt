@@ -1,18 +1,16 @@
--- The answers of the public calls in document 01's numbers and values.
+-- The answers of the public calls on one tree, on two, and on the texts of a table, in document 01's numbers and values.
 -- Assumes nothing.
 use mathlib.Core.Bool.{Bool, true, false}
 use mathlib.Core.List.{List}
 use Prim.Native.Nat.{ℕ}
-use Rattle.meaning.specs.Answer.{Answer, accepted, Outcome, TableSize, TableMemory, GraphSize, GraphMemory, FirstsMemory, IslandsMemory}
+use Rattle.meaning.specs.Answer.{Answer, accepted, Outcome, TableSize, TableMemory}
 use Rattle.reading.specs.Paper.{refusalOf}
 use Rattle.calls.specs.declared.TextAnswer.{TextAnswer}
 use Rattle.calls.specs.declared.TextAnswer.the-variants.{Written, Refused}
 use Rattle.calls.specs.declared.PairAnswer.{PairAnswer}
-use Rattle.calls.specs.declared.PairAnswer.the-variants as pair
 use Rattle.calls.specs.declared.TableAnswer.{TableAnswer}
+use Rattle.calls.specs.declared.PairAnswer.the-variants as pair
 use Rattle.calls.specs.declared.TableAnswer.the-variants as table
-use Rattle.calls.specs.declared.GraphAnswer.{GraphAnswer}
-use Rattle.calls.specs.declared.GraphAnswer.the-variants as graph
 
 -- the form call, the cut call and the sheet call: the bytes written
 abbrev pub textAnswer : TextAnswer → Answer ℕ
@@ -36,25 +34,3 @@ tableAnswer (table.Refused x) = refusalOf x
 
 abbrev pub tableOutcome : TableAnswer → List ℕ → List ℕ → Outcome TableSize TableMemory
 tableOutcome r texts ends = record { answer = tableAnswer r; memory = record { texts = texts; ends = ends } }
-
--- the calls that list pairs: the trees, and the pairs
-abbrev pub graphAnswer : GraphAnswer → Answer GraphSize
-graphAnswer (graph.Listed k m) = accepted (record { trees = k; pairs = m })
-graphAnswer (graph.Refused x) = refusalOf x
-
-abbrev pub graphOutcome : GraphAnswer → List ℕ → List ℕ → Outcome GraphSize GraphMemory
-graphOutcome r pairs counts = record { answer = graphAnswer r; memory = record { pairs = pairs; counts = counts } }
-
--- the graph call, with the first positions
-abbrev pub firstSlices : List ℕ → List ℕ → List ℕ → FirstsMemory
-firstSlices pairs counts firsts = record { graph = record { pairs = pairs; counts = counts }; firsts = firsts }
-
-abbrev pub firstsOutcome : GraphAnswer → List ℕ → List ℕ → List ℕ → Outcome GraphSize FirstsMemory
-firstsOutcome r pairs counts firsts = record { answer = graphAnswer r; memory = firstSlices pairs counts firsts }
-
--- the islands call, with one slice more
-abbrev pub islandSlices : List ℕ → List ℕ → List ℕ → List ℕ → IslandsMemory
-islandSlices pairs counts firsts islands = record { lists = firstSlices pairs counts firsts; islands = islands }
-
-abbrev pub islandsOutcome : GraphAnswer → List ℕ → List ℕ → List ℕ → List ℕ → Outcome GraphSize IslandsMemory
-islandsOutcome r pairs counts firsts islands = record { answer = graphAnswer r; memory = islandSlices pairs counts firsts islands }

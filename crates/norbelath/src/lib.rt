@@ -3,17 +3,18 @@
 // caller.
 pub mod clade_exports;
 
-use calls::GraphAnswer;
 use calls::PairAnswer;
 use calls::TableAnswer;
 use calls::TextAnswer;
 use links::Copies;
+use listing_calls::GraphAnswer;
 use reading::Refusal;
 ghost use mathlib.Core.Path.{_≡_};
 ghost use Rattle.meaning.specs.Calls.{formCall, cutCall, PairCall, tableCall, InterchangeCall, ChoosingCall, GraphCall, IslandsCall};
 ghost use Rattle.meaning.specs.Sheet.{SheetCall};
 ghost use Rattle.links.specs.Copies.{choiceOf};
-ghost use Rattle.calls.specs.Paper.{textAnswer, pairAnswer, tableAnswer, graphAnswer};
+ghost use Rattle.calls.specs.Paper.{textAnswer, pairAnswer, tableAnswer};
+ghost use Rattle.listing_calls.specs.Paper.{graphAnswer};
 ghost use Rattle.norbelath.specs.Coded.{coded, textValue, pairValue, tableValue, graphValue, textCoded, tableCoded, graphCoded, choiceCoded, firstsCoded, islandsCoded, Numbered};
 
 // A result and the two numbers beside it.
@@ -183,7 +184,7 @@ pub extern "C" fn norbelath_graph_choosing(
 {
     let copies = copies_of(choice);
     hand_back(
-        graph_reply(calls::graph_call_choosing(text, copies, pairs, counts, firsts)),
+        graph_reply(listing_calls::graph_call_choosing(text, copies, pairs, counts, firsts)),
         first,
         second,
     )
@@ -205,7 +206,7 @@ pub extern "C" fn norbelath_graph(
         (firstsCoded r (now (first .exit)) (now (second .exit)) (now (pairs .exit)) (now (counts .exit)) (now (firsts .exit))) ⌝ }
 {
     hand_back(
-        graph_reply(calls::graph_call(text, pairs, counts, firsts)),
+        graph_reply(listing_calls::graph_call(text, pairs, counts, firsts)),
         first,
         second,
     )
@@ -225,7 +226,7 @@ pub extern "C" fn norbelath_interchanges(
         (graphCoded r (now (first .exit)) (now (second .exit)) (now (pairs .exit)) (now (counts .exit))) ⌝ }
 {
     hand_back(
-        graph_reply(calls::interchange_call(text, pairs, counts)),
+        graph_reply(listing_calls::interchange_call(text, pairs, counts)),
         first,
         second,
     )
@@ -251,7 +252,7 @@ pub extern "C" fn norbelath_islands(
         (islandsCoded r (now (first .exit)) (now (second .exit)) (now (pairs .exit)) (now (counts .exit)) (now (firsts .exit)) (now (islands .exit))) ⌝ }
 {
     hand_back(
-        graph_reply(calls::islands_call(text, pairs, counts, firsts, islands)),
+        graph_reply(listing_calls::islands_call(text, pairs, counts, firsts, islands)),
         first,
         second,
     )
@@ -267,5 +268,9 @@ pub extern "C" fn norbelath_sheet(
 ) -> u8
     ensures { λ r. ⌜ SheetCall (now (text .entry)) (now (out .entry)) (textCoded r (now (first .exit)) (now (second .exit)) (now (out .exit))) ⌝ }
 {
-    hand_back(text_reply(calls::sheet_call(text, out)), first, second)
+    hand_back(
+        text_reply(listing_calls::sheet_call(text, out)),
+        first,
+        second,
+    )
 }

@@ -3,10 +3,6 @@ use clade_calls::SupportAnswer;
 use held::Tree;
 use sorting::Pool;
 
-fn wide(x: u16) -> usize {
-    x as usize
-}
-
 // The first clades and how many trees have each, as far as the slices have them.
 fn print_clades(clades: &[u64], numbers: &[u16], number: usize) {
     let mut k = 0;
@@ -16,7 +12,7 @@ fn print_clades(clades: &[u64], numbers: &[u16], number: usize) {
                 super::print(b" ");
                 super::print_number(clades[k] as usize);
                 super::print(b" in ");
-                super::print_number(wide(numbers[k]));
+                super::print_number(super::wide(numbers[k]));
                 super::print(b",");
             }
         }

@@ -1,17 +1,14 @@
 // Runs the samples that are not proved ones, and the edges of the calls, and prints a line for each.
 mod clade_samples;
+mod listing_samples;
 
-use calls::GraphAnswer;
 use calls::PairAnswer;
 use calls::TableAnswer;
 use calls::TextAnswer;
 use held::Table;
 use held::Tree;
 use libc::STDOUT_FILENO;
-use links::Copies;
 use reading::Refusal;
-use sheet::IslandSheet;
-use sheet::Sheet;
 
 fn print(text: &[u8]) {
     io::write_all(STDOUT_FILENO, text);
@@ -19,6 +16,10 @@ fn print(text: &[u8]) {
 
 fn print_number(n: usize) {
     io::print_decimal(STDOUT_FILENO, n as u64);
+}
+
+fn wide(x: u16) -> usize {
+    x as usize
 }
 
 // The first n bytes of a slice, which has as many.
@@ -97,130 +98,6 @@ fn table(text: &[u8]) {
             print(b"\n");
         }
         TableAnswer::Refused(x) => print_refusal(x),
-    }
-}
-
-fn wide(x: u16) -> usize {
-    x as usize
-}
-
-// The pairs, as far as the slice has them.
-fn print_pairs(pairs: &[u16], number: usize) {
-    let mut m = 0;
-    while m < pairs.len() / 2 {
-        if m < number {
-            print(b" ");
-            print_number(wide(pairs[2 * m]));
-            print(b"-");
-            print_number(wide(pairs[2 * m + 1]));
-        }
-        m += 1;
-    }
-}
-
-// The first numbers of a slice, as far as it has them.
-fn print_counts(counts: &[u16], number: usize) {
-    let mut i = 0;
-    while i < counts.len() {
-        if i < number {
-            print(b" ");
-            print_number(wide(counts[i]));
-        }
-        i += 1;
-    }
-}
-
-fn print_lists(trees: usize, number: usize, pairs: &[u16], counts: &[u16]) {
-    print_number(trees);
-    print(b" trees, pairs");
-    print_pairs(pairs, number);
-    print(b", counts");
-    print_counts(counts, trees);
-}
-
-// The graph call, which merges copies, or the same with copies kept apart.
-fn chosen_graph(text: &[u8], copies: Copies) {
-    let mut pairs = [0u16; Table::PAIR_NUMBERS];
-    let mut counts = [0u16; Table::MAX_TREES];
-    let mut firsts = [0u16; Table::MAX_TREES];
-    let answer = calls::graph_call_choosing(text, copies, &mut pairs, &mut counts, &mut firsts);
-    match answer {
-        GraphAnswer::Listed(trees, number) => {
-            print_lists(trees, number, &pairs, &counts);
-            print(b", firsts");
-            print_counts(&firsts, trees);
-            print(b"\n");
-        }
-        GraphAnswer::Refused(x) => print_refusal(x),
-    }
-}
-
-fn interchanges(text: &[u8]) {
-    let mut pairs = [0u16; Table::PAIR_NUMBERS];
-    let mut counts = [0u16; Table::MAX_TREES];
-    let answer = calls::interchange_call(text, &mut pairs, &mut counts);
-    match answer {
-        GraphAnswer::Listed(trees, number) => {
-            print_lists(trees, number, &pairs, &counts);
-            print(b"\n");
-        }
-        GraphAnswer::Refused(x) => print_refusal(x),
-    }
-}
-
-// The islands call's lists are the graph call's, so the islands' numbers are printed alone.
-fn islands(text: &[u8]) {
-    let mut pairs = [0u16; Table::PAIR_NUMBERS];
-    let mut counts = [0u16; Table::MAX_TREES];
-    let mut firsts = [0u16; Table::MAX_TREES];
-    let mut numbers = [0u16; Table::MAX_TREES];
-    let answer = calls::islands_call(text, &mut pairs, &mut counts, &mut firsts, &mut numbers);
-    match answer {
-        GraphAnswer::Listed(trees, number) => {
-            print_number(trees);
-            print(b" trees, ");
-            print_number(number);
-            print(b" pairs, islands");
-            print_counts(&numbers, trees);
-            print(b"\n");
-        }
-        GraphAnswer::Refused(x) => print_refusal(x),
-    }
-}
-
-// What the islands program prints; it ends each of its lines itself.
-fn print_island_sheet(text: &[u8]) {
-    let mut out = [0u8; IslandSheet::MAX_BYTES];
-    print(b"sheet of islands :\n");
-    let n = sheet::print_islands(text, &mut out);
-    print(&out[..n]);
-}
-
-// What the calls that list pairs give for a table.
-fn graph(text: &[u8]) {
-    print(b"graph ");
-    print(text);
-    print(b" : ");
-    chosen_graph(text, Copies::Merged);
-    print(b"copies kept apart : ");
-    chosen_graph(text, Copies::KeptApart);
-    print(b"interchanges : ");
-    interchanges(text);
-    print(b"islands : ");
-    islands(text);
-    print_island_sheet(text);
-}
-
-// A sheet ends each of its lines itself.
-fn print_sheet(text: &[u8]) {
-    let mut out = [0u8; Sheet::MAX_BYTES];
-    print(b"sheet ");
-    print(text);
-    print(b" :\n");
-    let answer = calls::sheet_call(text, &mut out);
-    match answer {
-        TextAnswer::Written(n) => print_first(&out, n),
-        TextAnswer::Refused(x) => print_refusal(x),
     }
 }
 
@@ -335,36 +212,14 @@ fn tables() {
     );
 }
 
-fn graphs() {
-    graph(b"");
-    graph(b"1;1;1;");
-    graph(b"((1,2),3);(3,(2,1));(1,(2,3));((1,3),2);");
-    graph(b"(((1,2),3),4);((1,2),(3,4));(((3,4),1),2);");
-    graph(b"((((4,5),1),2),3);((((1,2),3),4),5);");
-    graph(b"(((1,2),3),4);(((2,3),1),4);(((1,3),2),4);((1,2),(3,4));(((1,2),4),3);");
-    graph(b"(((1,2),3),4);(((1,4),2),3);((2,3),(1,4));");
-    graph(
-        b"((((5,6),1),2),(3,4));((((1,2),3),4),(5,6));((((1,2),4),3),(5,6));((((5,6),2),1),(3,4));",
-    );
-    graph(b"(1,2);(1,2");
-}
-
-// The sheet that document 01 prints, a table of copies, trees that are no neighbours, and a refusal's line.
-fn sheets() {
-    print_sheet(b"((2,1),3);(3,(2,1));(1,(2,3));((1,3),2);");
-    print_sheet(b"1;1;1;");
-    print_sheet(b"((((4,5),1),2),3);((((1,2),3),4),5);((3,(2,1)),4,5);");
-    print_sheet(b"((((4,5),1),2),3);((((1,2),3),4),5);((((2,1),3),4),5);");
-}
-
 fn main() {
     forms();
     cuts();
     pairs();
     tables();
-    graphs();
+    listing_samples::graphs();
     clade_samples::supports();
-    sheets();
+    listing_samples::sheets();
     short_slices();
     long_texts();
 }

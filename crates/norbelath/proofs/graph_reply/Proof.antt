@@ -1,7 +1,7 @@
 -- `norbelath::graph_reply` meets its contract.
 -- Assumes nothing.
 use mathlib.Core.Path.{ap}
-use Rattle.calls.specs.Paper.{graphAnswer}
+use Rattle.listing_calls.specs.Paper.{graphAnswer}
 use Rattle.norbelath.specs.Coded.{graphValue}
 use Rattle.norbelath.proofs.Replies.{said-accepted, said-refused}
 use borrow.Author.Needs.{needs}

@@ -1,4 +1,4 @@
--- `calls::sheet_call` meets its contract.
+-- `listing_calls::sheet_call` meets its contract.
 -- Assumes nothing.
 use mathlib.Core.Path.{_≡_, sym, _∙_}
 use mathlib.Core.Bool.{true}
@@ -7,9 +7,9 @@ use borrow.Author.Tests.{not-true, not-false}
 use Rattle.meaning.specs.Calls.{enough}
 use Rattle.meaning.specs.Sheet.{sheetSlices}
 use Rattle.meaning.proofs.Lent.{enough-ample}
-use Rattle.calls.proofs.Sheets.{sheet-refused, sheet-printed}
-use Rattle.calls.proofs.sheet_call.Statement.{statement}
-use Rattle.calls.proofs.sheet_call.Tie as tie
+use Rattle.listing_calls.proofs.Sheets.{sheet-refused, sheet-printed}
+use Rattle.listing_calls.proofs.sheet_call.Statement.{statement}
+use Rattle.listing_calls.proofs.sheet_call.Tie as tie
 
 -- the entry, from where the slice was measured
 abbrev start : tie.After-enough → tie.Start

@@ -1,6 +1,6 @@
--- `calls::interchange_call` meets its contract.
+-- `listing_calls::interchange_call` meets its contract.
 -- Assumes nothing.
-use Rattle.calls.proofs.Graphing.{interchange-refused, interchange-room, interchange-listed}
+use Rattle.listing_calls.proofs.Graphing.{interchange-refused, interchange-room, interchange-listed}
 use mathlib.Core.Path.{ap, _∙_}
 use mathlib.Core.Bool.{Bool, _&&_}
 use borrow.Author.Needs.{needs}
@@ -12,8 +12,8 @@ use Rattle.meaning.specs.Calls.{graphRead}
 use Rattle.graph.specs.Graph.{slices}
 use Rattle.tables.specs.Lent.{TableLent}
 use Rattle.tables.proofs.Lent.{measured}
-use Rattle.calls.proofs.interchange_call.Statement.{statement}
-use Rattle.calls.proofs.interchange_call.Tie as tie
+use Rattle.listing_calls.proofs.interchange_call.Statement.{statement}
+use Rattle.listing_calls.proofs.interchange_call.Tie as tie
 
 -- the entry and the lent memory, from where the text was read, and what the call is given
 abbrev start : tie.After-read-lent-table → tie.Start

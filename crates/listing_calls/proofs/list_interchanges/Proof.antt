@@ -1,8 +1,8 @@
--- `calls::list_interchanges` meets its contract.
+-- `listing_calls::list_interchanges` meets its contract.
 -- Assumes nothing.
 use borrow.Author.Needs.{needs}
-use Rattle.calls.proofs.list_interchanges.Statement.{statement}
-use Rattle.calls.proofs.list_interchanges.Tie as tie
+use Rattle.listing_calls.proofs.list_interchanges.Statement.{statement}
+use Rattle.listing_calls.proofs.list_interchanges.Tie as tie
 
 slice-aggregate-list-pairs : tie.Need-slice-aggregate-list-pairs
 slice-aggregate-list-pairs c = search needs

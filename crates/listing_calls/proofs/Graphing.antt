@@ -29,8 +29,8 @@ use Rattle.graph.specs.Graph.{ListRoom, Graph}
 use Rattle.graph.specs.Copies.{GraphRoom, FirstsGraph, GraphWritten}
 use Rattle.graph.specs.Islands.{IslandGraphRoom, IslandsWritten}
 use Rattle.tables.specs.Lent.{TableLent}
-use Rattle.calls.specs.Paper.{graphOutcome, firstsOutcome, islandsOutcome}
-use Rattle.calls.specs.declared.GraphAnswer.the-variants.{Listed, Refused}
+use Rattle.listing_calls.specs.Paper.{graphOutcome, firstsOutcome, islandsOutcome}
+use Rattle.listing_calls.specs.declared.GraphAnswer.the-variants.{Listed, Refused}
 use Rattle.tables.proofs.Lent.{Given, lent-next, lent-refused}
 
 -- what a graph that was written leaves in the lent slices

@@ -1,10 +1,10 @@
--- `samples::print_counts` meets its contract.
+-- `samples::listing_samples::print_counts` meets its contract.
 -- Assumes nothing.
 use Prim.Native.Nat.{_≤_, _-_}
 use borrow.Author.Needs.{needs}
 use lib.ListN.{length}
-use Rattle.samples.proofs.print_counts.Statement.{statement}
-use Rattle.samples.proofs.print_counts.Tie as tie
+use Rattle.samples.proofs.listing_samples.print_counts.Statement.{statement}
+use Rattle.samples.proofs.listing_samples.print_counts.Tie as tie
 
 abbrev Inv-loop : tie.InvT-loop
 Inv-loop counts number i₀ t4 i = i ≤ length counts

@@ -1,4 +1,4 @@
--- `calls::islands_call` meets its contract.
+-- `listing_calls::islands_call` meets its contract.
 -- Assumes nothing.
 use mathlib.Core.Path.{ap, _∙_}
 use mathlib.Core.Bool.{Bool, _&&_}
@@ -10,10 +10,10 @@ use Rattle.meaning.specs.Answer.{IslandsMemory}
 use Rattle.meaning.specs.Calls.{islandsRead}
 use Rattle.tables.specs.Lent.{TableLent}
 use Rattle.tables.proofs.Lent.{measured}
-use Rattle.calls.specs.Paper.{islandSlices}
-use Rattle.calls.proofs.Graphing.{islands-refused, islands-room, islands-listed}
-use Rattle.calls.proofs.islands_call.Statement.{statement}
-use Rattle.calls.proofs.islands_call.Tie as tie
+use Rattle.listing_calls.specs.Paper.{islandSlices}
+use Rattle.listing_calls.proofs.Graphing.{islands-refused, islands-room, islands-listed}
+use Rattle.listing_calls.proofs.islands_call.Statement.{statement}
+use Rattle.listing_calls.proofs.islands_call.Tie as tie
 
 -- the entry and the lent memory, from where the text was read, and what the call is given
 abbrev start : tie.After-read-lent-table → tie.Start

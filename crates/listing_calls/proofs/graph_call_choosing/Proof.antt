@@ -1,4 +1,4 @@
--- `calls::graph_call_choosing` meets its contract.
+-- `listing_calls::graph_call_choosing` meets its contract.
 -- Assumes nothing.
 use mathlib.Core.Path.{ap, _∙_}
 use mathlib.Core.Bool.{Bool, _&&_}
@@ -10,10 +10,10 @@ use Rattle.meaning.specs.Answer.{FirstsMemory}
 use Rattle.meaning.specs.Calls.{firstsRead}
 use Rattle.tables.specs.Lent.{TableLent}
 use Rattle.tables.proofs.Lent.{measured}
-use Rattle.calls.specs.Paper.{firstSlices}
-use Rattle.calls.proofs.Graphing.{graph-refused, graph-room, graph-listed}
-use Rattle.calls.proofs.graph_call_choosing.Statement.{statement}
-use Rattle.calls.proofs.graph_call_choosing.Tie as tie
+use Rattle.listing_calls.specs.Paper.{firstSlices}
+use Rattle.listing_calls.proofs.Graphing.{graph-refused, graph-room, graph-listed}
+use Rattle.listing_calls.proofs.graph_call_choosing.Statement.{statement}
+use Rattle.listing_calls.proofs.graph_call_choosing.Tie as tie
 
 -- the entry and the lent memory, from where the text was read, and what the call is given
 abbrev start : tie.After-read-lent-table → tie.Start
