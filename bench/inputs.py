@@ -23,7 +23,11 @@ Full tables, 160 trees of 64 leaves:
                  neighbours of each other.  There are 125, and the first of
                  them come once more
 
-For the support call some of these, and one more of the same size:
+Unrooted ones: `unrooted_unrelated` and so on for the first four, `copies` and
+`one_forest`, the same trees in the same order without their roots, each with its
+top at a random node.
+
+For the support call some of the rooted ones, and one more of the same size:
 
     most_clades  no two trees share a clade but the whole label set, so that
                  there are as many clades as a table can have
@@ -158,6 +162,15 @@ def swapped(rng, tree):
     return (first, second) if rng.random() < 0.5 else (second, first)
 
 
+def turned(rng, tree):
+    """The same tree without its root, with a root on a random edge instead."""
+    side, *rest = rng.choice(paths(tree)[1:])
+    node, above = tree[side], tree[1 - side]
+    for side in rest:
+        node, above = node[side], (above, node[1 - side])
+    return node, above
+
+
 # Tables
 
 
@@ -259,6 +272,7 @@ def most_clades(rng, leaves):
 
 
 FULL_TABLES = (unrelated, chain, near_copies, combs, copies, interchange_chain, mixed_chains, one_forest)
+UNROOTED_TABLES = (unrelated, chain, near_copies, combs, copies, one_forest)
 SUPPORT_TABLES = (most_clades, unrelated, near_copies, copies, combs, chain, one_forest)
 
 
@@ -272,9 +286,16 @@ def node_text(tree):
     return "(%s,%s)" % (node_text(tree[0]), node_text(tree[1]))
 
 
-def text_of(trees):
+def unrooted_text(tree):
+    """The text of a tree of three or more leaves without its root: one node of
+    the root's edge is the top."""
+    one, other = tree if isinstance(tree[1], tuple) else reversed(tree)
+    return "[&U](%s,%s,%s)" % (node_text(one), node_text(other[0]), node_text(other[1]))
+
+
+def text_of(trees, text=node_text):
     """The text of a table, one tree to a line."""
-    return "".join(node_text(tree) + ";\n" for tree in trees)
+    return "".join(text(tree) + ";\n" for tree in trees)
 
 
 def table_of(make, leaves):
@@ -282,6 +303,18 @@ def table_of(make, leaves):
     size."""
     rng = random.Random("%s %d" % (make.__name__, leaves))
     return [swapped(rng, tree) for tree in make(rng, leaves)]
+
+
+def unrooted(make, trees):
+    """The name of a table of unrooted trees, and its text."""
+    rng = random.Random("unrooted " + make.__name__)
+    turns = [swapped(rng, turned(rng, tree)) for tree in trees]
+    return unrooted_name(make.__name__), text_of(turns, unrooted_text)
+
+
+def unrooted_name(name):
+    """The name of the table that has the same trees without their roots."""
+    return "unrooted_" + name
 
 
 GROWING = (unrelated, chain)
@@ -300,11 +333,14 @@ def growth_in_trees():
         yield make.__name__, [(number, sized(make, number, LEAVES)) for number in FEWER_TREES + (TREES,)]
 
 
-def inputs():
-    """Yield (name, text) for each input, growing ones from small to large."""
+def inputs(both_kinds=True):
+    """Yield (name, text) for each input, growing ones from small to large; those
+    of unrooted trees if both kinds are taken."""
     full = {make: table_of(make, LEAVES) for make in FULL_TABLES}
     for make, trees in full.items():
         yield make.__name__, text_of(trees)
+    for make in UNROOTED_TABLES if both_kinds else ():
+        yield unrooted(make, full[make])
     yield "distinct_of_near_copies", text_of(distinct(full[near_copies]))
     for make in GROWING:
         for number in FEWER_TREES:

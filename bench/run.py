@@ -20,6 +20,10 @@ less the same for an empty input, which is what starting the process costs.  The
 last column has the ratio to the last program with the start left in.  The
 picture, an SVG file, shows the times against the number of trees.
 
+Some full tables come twice, with their trees rooted and unrooted; interchanges
+are of rooted trees only.  Behind the table is how many times as long each program
+takes for the unrooted ones.
+
 With --support OUR_PROGRAM is that of support.c; if it is left out, it is built
 over the library, which tools/native.sh builds.  It and the plain one print how
 many trees have each clade, and the majority tree, for some full tables.  Times
@@ -173,12 +177,13 @@ class Sheet(NamedTuple):
     others: Tuple[str, ...]  # the programs to compare with
     counted: str  # what is counted besides trees
     counts: Callable[[bytes], Optional[Tuple[int, int]]]
+    both_kinds: bool = True  # whether unrooted trees are taken
 
 
 PAIRS = Sheet(None, build_pair_lister, ("plain", "fast"), "pairs", trees_and_pairs)
-INTERCHANGES = Sheet("--interchanges", None, ("plain",), "pairs", trees_and_pairs)
+INTERCHANGES = Sheet("--interchanges", None, ("plain",), "pairs", trees_and_pairs, both_kinds=False)
 ISLANDS = Sheet("--islands", None, ("plain",), "islands", trees_and_islands)
-SUPPORT = Sheet("--support", build_support, ("plain",), "clades", trees_and_clades)
+SUPPORT = Sheet("--support", build_support, ("plain",), "clades", trees_and_clades, both_kinds=False)
 
 
 def size_of(path, sheet, output):
@@ -269,12 +274,20 @@ def measure(commands, sheet, start, repeat, directory):
     """Print the table and give the times of each input."""
     print(headings(sheet))
     times = {}
-    for name, path in inputs.write_inputs(os.path.join(directory, "inputs"), inputs.inputs()):
+    for name, path in inputs.write_inputs(os.path.join(directory, "inputs"), inputs.inputs(sheet.both_kinds)):
         size = size_of(path, sheet, compared_output(commands, path))
         whole = best_times(commands, path, repeat)
         times[name] = [max(0.0, spent - begun) for spent, begun in zip(whole, start)]
         print(row((name,) + size, columns_of(whole, times[name])), flush=True)
     return times
+
+
+def print_ratios_of_kinds(sheet, times):
+    """Print the ratios of unrooted tables to rooted ones of the same trees."""
+    print("\n%-23s" % "unrooted/rooted" + "".join(COLUMN % name for name in ("ours",) + sheet.others))
+    for name in (make.__name__ for make in inputs.UNROOTED_TABLES):
+        pairs = zip(times[inputs.unrooted_name(name)], times[name])
+        print("%-23s" % name + "".join(COLUMN % ratio_text(*pair) for pair in pairs))
 
 
 def call_milliseconds(program, path, repeat):
@@ -318,6 +331,8 @@ def run(ours, sheet, repeat, drawn, directory):
         measure_support(commands, repeat, directory)
         return
     times = measure(commands, sheet, start, repeat, directory)
+    if sheet.both_kinds:
+        print_ratios_of_kinds(sheet, times)
     if drawn:
         write_picture(drawn, programs, times)
 

@@ -1,9 +1,9 @@
 /*
- * Norbelath: rooted binary trees as texts, and which of them are one prune and regraft apart.
+ * Norbelath: binary trees, rooted or unrooted, as texts, and which of them are one prune and regraft apart.
  *
  * Ten calls over lent memory. They allocate nothing, keep nothing between calls and may be called from several
  * threads at once. On x86-64 the table call uses up to 120 KB of stack, the support call up to 300 KB, the graph,
- * interchange and islands calls up to 340 KB, and the sheet call up to 420 KB. Any bytes may be given as a text: what is
+ * interchange and islands calls up to 360 KB, and the sheet call up to 440 KB. Any bytes may be given as a text: what is
  * not as it should be is refused, with the reason and the place.
  *
  * A text is a pointer and its length in bytes; it needs no byte 0 at its end. A lent slice is a pointer and its length in
@@ -29,6 +29,22 @@
  * An accepted call writes from the start of each lent slice on and changes nothing behind what it writes. A refusal
  * changes no lent slice.
  *
+ * A tree is written as follows; blanks (space, tab, CR, LF) may stand before each label, sign and mark, and a mark has
+ * none inside:
+ *
+ *   tree     = node ;   or  [&R] node ;   or  [&U] top ;
+ *   node     = label    or  ( node , node )
+ *   top      = label    or  ( label , label )   or  ( node , node , node )
+ *   label    = a run of decimal digits whose value is 1 to 64, no value twice in a tree
+ *
+ * [&U] marks an unrooted tree; [&R], or no mark, a rooted one. Only the canonical text of an unrooted tree has the mark.
+ * The trees of a call are of one kind and have the same labels. The form, pair, table, graph, graph choosing, islands and
+ * sheet calls take trees of either kind; the cut, interchange and support calls take rooted trees only.
+ *
+ * One move of a rooted tree takes the subtree at a node away and hangs it on an edge of the rest, or above its root. One
+ * move of an unrooted tree cuts an edge and joins one side, by its cut end, to an edge of the other; either side may be
+ * the one that is moved.
+ *
  * Trees of one topology are copies of each other, however they are written; two copies are never a pair. The first
  * position of a topology is the smallest position whose tree has it. The graph call and the islands call merge copies:
  * only first positions stand in pairs, and a later copy is in none. The graph choosing call can keep copies apart, so
@@ -53,9 +69,9 @@ extern "C" {
  * needed. The graph choosing call has those of the graph call, the interchange call those of its pairs and counts; the
  * islands call has those of the graph call, and NORBELATH_ISLANDS for its fourth slice.
  */
-#define NORBELATH_FORM_OUT 309
+#define NORBELATH_FORM_OUT 313
 #define NORBELATH_CUT_OUT 307
-#define NORBELATH_TABLE_TEXTS 49440
+#define NORBELATH_TABLE_TEXTS 50080
 #define NORBELATH_TABLE_ENDS 160
 #define NORBELATH_GRAPH_PAIRS 25440
 #define NORBELATH_GRAPH_COUNTS 160
@@ -64,7 +80,7 @@ extern "C" {
 #define NORBELATH_SUPPORT_CLADES 9921
 #define NORBELATH_SUPPORT_TREES 9921
 #define NORBELATH_SUPPORT_OUT 309
-#define NORBELATH_SHEET_OUT 220902
+#define NORBELATH_SHEET_OUT 221542
 
 /* The choices of the graph choosing call. Any number but 0 keeps copies apart. */
 #define NORBELATH_MERGE_COPIES 0
@@ -81,21 +97,23 @@ extern "C" {
 #define NORBELATH_SHORT_SLICE 7    /* a lent slice that is too short */
 #define NORBELATH_LONG_TEXT 8      /* a text above 65,535 bytes */
 #define NORBELATH_NO_SUCH_CUT 9    /* a cut number that the tree does not have */
+#define NORBELATH_OTHER_KIND 10    /* not of the first tree's kind, or unrooted in a call for rooted trees only: its `;` */
 
-/* Form call: the canonical text of the one tree of a text, `;` included. */
+/* Form call: the canonical text of the one tree of a text, `;` included, and the mark of an unrooted tree. */
 uint8_t norbelath_form(const uint8_t *text, size_t text_len,
                        uint8_t *out, size_t out_len,
                        uint64_t *first, uint64_t *second);
 
 /*
- * Cut call: the forest text of a cut of the one tree of a text: what the cut leaves, a space, what it takes away and `;`.
- * A tree of n leaves has the cuts 0 to 2n - 3, in the order in which its nodes begin in the canonical text, without the root.
+ * Cut call: the forest text of a cut of the one tree, a rooted one, of a text: what the cut leaves, a space, what it
+ * takes away and `;`. A tree of n leaves has the cuts 0 to 2n - 3, in the order in which its nodes begin in the
+ * canonical text, without the root.
  */
 uint8_t norbelath_cut(const uint8_t *text, size_t text_len, uint64_t cut,
                       uint8_t *out, size_t out_len,
                       uint64_t *first, uint64_t *second);
 
-/* Pair call: whether one move makes the tree of `text` that of `other`, a different topology. */
+/* Pair call: whether one move makes the tree of `text` that of `other`, of the same kind and a different topology. */
 uint8_t norbelath_pair(const uint8_t *text, size_t text_len,
                        const uint8_t *other, size_t other_len,
                        uint64_t *first, uint64_t *second);
@@ -132,9 +150,9 @@ uint8_t norbelath_graph_choosing(const uint8_t *text, size_t text_len, uint8_t c
                                  uint64_t *first, uint64_t *second);
 
 /*
- * Interchange call: the pairs of trees of a text that are one nearest-neighbour interchange apart, copies kept apart,
- * in the order and the first two slices of the graph call. An interchange takes a node that is neither the root nor a
- * child of the root and regrafts it on the edge above its aunt, the sibling of its parent.
+ * Interchange call: the pairs of rooted trees of a text that are one nearest-neighbour interchange apart, copies kept
+ * apart, in the order and the first two slices of the graph call. An interchange takes a node that is neither the root
+ * nor a child of the root and regrafts it on the edge above its aunt, the sibling of its parent.
  */
 uint8_t norbelath_interchanges(const uint8_t *text, size_t text_len,
                                uint16_t *pairs, size_t pairs_len,
@@ -154,12 +172,13 @@ uint8_t norbelath_islands(const uint8_t *text, size_t text_len,
                           uint64_t *first, uint64_t *second);
 
 /*
- * Support call: every clade of two or more labels of the trees of a text, once, and in how many trees each occurs, copies
- * counted. clades[k] has bit L - 1 set for each label L of the clade, and trees[k] is the number of trees. Clades of more
- * trees come first; of as many, the labels are compared from the smallest on, and a clade whose labels end first is the
- * lesser: {1,2}, {1,2,3}, {1,3}, {2,3}. out receives the text of the majority tree, `;` included: its clades are those of
- * more than half of the trees, each label alone and all labels, and a node of it may have more than two children, which
- * stand in the order of their smallest labels. A text without trees has no clades and no bytes.
+ * Support call: every clade of two or more labels of the rooted trees of a text, once, and in how many trees each
+ * occurs, copies counted. clades[k] has bit L - 1 set for each label L of the clade, and trees[k] is the number of
+ * trees. Clades of more trees come first; of as many, the labels are compared from the smallest on, and a clade whose
+ * labels end first is the lesser: {1,2}, {1,2,3}, {1,3}, {2,3}. out receives the text of the majority tree, `;`
+ * included: its clades are those of more than half of the trees, each label alone and all labels, and a node of it may
+ * have more than two children, which stand in the order of their smallest labels. A text without trees has no clades
+ * and no bytes.
  */
 uint8_t norbelath_support(const uint8_t *text, size_t text_len,
                           uint64_t *clades, size_t clades_len,

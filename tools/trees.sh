@@ -3,16 +3,17 @@
 #
 #     trees.sh [--burn-in N|N%] [--every N] FILE... >trees.txt && pair_lister <trees.txt
 #
-# A file is NEXUS, as MrBayes, BEAST 1 and BEAST 2 write it, or Newick, one tree after another. Its trees are rooted and
-# binary, and their taxa are numbers. Branch lengths, comments, annotations and the root mark [&R] are dropped.
+# A file is NEXUS, as MrBayes, BEAST 1 and BEAST 2 write it, or Newick, one tree after another. Its trees are binary, and
+# their taxa are numbers. Branch lengths, comments, annotations and the root mark [&R] are dropped. A tree marked [&U], or
+# a utree without [&R], is unrooted: it has three children at the top, or two leaves, or one, and keeps the mark [&U].
 #
 # --burn-in N    leaves out the first N trees of each file; N%: that part of the file's trees, rounded down
 # --every N      takes of what is left in each file the first tree and every Nth after it
 #
-# What cannot be taken is refused: one message on standard error, status 1, nothing on standard output. That is an unrooted
-# tree ([&U], or a utree without [&R]), a name where a number should be, a number that stands for two taxa, a node without
-# exactly two children, a file that has no trees, ends inside one or cannot be read, more than 160 trees, a bad option.
-# Labels are compared and limited (1 to 64) by the pair lister. Needs sh and awk.
+# What cannot be taken is refused: one message on standard error, status 1, nothing on standard output. That is a tree of
+# another kind than the first, rooted or unrooted, a name where a number should be, a number that stands for two taxa, a
+# node with a wrong number of children, a file that has no trees, ends inside one or cannot be read, more than 160 trees, a
+# bad option. Labels are compared and limited (1 to 64) by the pair lister. Needs sh and awk.
 set -eu
 LC_ALL=C
 export LC_ALL
@@ -118,12 +119,31 @@ function translate(text,   n, i, entry, number, name) {
     }
 }
 
+# all trees have the kind of the first one
+function same_kind(which, kind) {
+    if (first_kind == "") {
+        first_kind = kind
+        first_file = file
+    }
+    if (kind != first_kind) fail(which "is " kind ", and tree 1 of " first_file " is " first_kind "; all have to be of one kind")
+}
+
+# the number of children is right at every node, of a text without blanks and branch lengths
+function binary(which, text, unrooted,   leaf, leaves) {
+    leaves = split(text, leaf, ",")
+    while (gsub(/[(](x|[0-9]+),(x|[0-9]+)[)]/, "x", text)) continue
+    if (text ~ /^[(](x|[0-9]+),(x|[0-9]+),(x|[0-9]+)[)]$/) {
+        if (!unrooted) fail(which "has three children at the top, as an unrooted tree has, but is not marked [&U]")
+    } else if (text !~ /^(x|[0-9]+)$/) fail(which "is not binary, or has a label at an inner node")
+    else if (unrooted && leaves > 2) fail(which "is marked unrooted, but has two children at the top, as a rooted tree has")
+}
+
 # one tree, without its `;`
 function tree(text, unrooted,   n, i, label, which) {
     found++
     which = file ": tree " found " "
-    if (unrooted) fail(which "is unrooted; the pair lister takes rooted trees")
-    gsub(/<R>/, " ", text)
+    same_kind(which, unrooted ? "unrooted" : "rooted")
+    gsub(/<[RU]>/, " ", text)
     gsub(/[ \t]*:[ \t]*[-+]?[0-9.]+([eE][-+]?[0-9]+)?/, "", text)
     gsub(/[ \t]*[(][ \t]*/, "(", text)
     gsub(/[ \t]*,[ \t]*/, ",", text)
@@ -136,9 +156,8 @@ function tree(text, unrooted,   n, i, label, which) {
         if (translated && label[i] != "" && !((file, plain(label[i])) in here))
             fail(which "has " label[i] ", which the translate block does not have")
     }
-    taken_text[found] = text ";"
-    while (gsub(/[(](x|[0-9]+),(x|[0-9]+)[)]/, "x", text)) continue
-    if (text !~ /^(x|[0-9]+)$/) fail(which "is not binary, or has a label at an inner node")
+    binary(which, text, unrooted)
+    taken_text[found] = (unrooted ? "[&U]" : "") text ";"
 }
 
 # one command of a file, without its `;`: a tree of Newick is one too

@@ -8,6 +8,10 @@
 /* What lent memory holds before a call, to see what a call changed. */
 #define UNTOUCHED 0xA5
 
+/* Bytes of the longest canonical text of a rooted tree, and of an unrooted one. */
+#define LONGEST 309
+#define LONGEST_UNROOTED 311
+
 static int checks;
 static int failures;
 
@@ -405,14 +409,86 @@ static char *write_comb(char *at, unsigned label, unsigned by, unsigned leaves)
 /* The deepest tree is also the longest text; one bracket more is refused. */
 static void deepest_form(void)
 {
-    char deepest[NORBELATH_FORM_OUT + 1] = "";
+    char deepest[LONGEST + 1] = "";
     strcpy(write_comb(deepest, 1, 1, 64), ";");
-    check(strlen(deepest) == NORBELATH_FORM_OUT, "form", deepest, "the text has another length");
+    check(strlen(deepest) == LONGEST, "form", deepest, "the text has another length");
     form(deepest, NORBELATH_FORM_OUT, deepest, 0, 0);
 
-    char deeper[NORBELATH_FORM_OUT + 2] = "(";
+    char deeper[LONGEST + 2] = "(";
     memcpy(deeper + 1, deepest, sizeof deepest);
     form(deeper, NORBELATH_FORM_OUT, NULL, NORBELATH_TOO_DEEP, 63);
+}
+
+/* The top is next to the smallest label, wherever it was; a rooted tree's mark is not written. */
+static void unrooted_forms(void)
+{
+    const size_t enough = NORBELATH_FORM_OUT;
+    form("[&U](1,(2,3),4);", enough, "[&U](1,(2,3),4);", 0, 0);
+    form("[&U]((1,2),3,(4,5));", enough, "[&U](1,2,(3,(4,5)));", 0, 0);
+    form("[&U]((3,(02,1)),5,4);", enough, "[&U](1,2,(3,(4,5)));", 0, 0);
+    form("\t[&U] ( (3,10) ,\n2, 9 ) ; ", enough + 1, "[&U](2,(3,10),9);", 0, 0);
+    form("[&U](10,2);", enough, "[&U](2,10);", 0, 0);
+    form(" [&U] 7 ;", enough, "[&U]7;", 0, 0);
+    form("[&R](3,(2,1));", enough, "((1,2),3);", 0, 0);
+    form("[&R] 7;", enough, "7;", 0, 0);
+    form("[&U](1,2);", enough - 1, NULL, NORBELATH_SHORT_SLICE, 0);
+    form("[&U](1,2);", LONGEST, NULL, NORBELATH_SHORT_SLICE, 0);
+    form("[&U](1,2,2);", enough, NULL, NORBELATH_LABEL_AGAIN, 9);
+    form("[&U](1,2,65);", enough, NULL, NORBELATH_BAD_LABEL, 9);
+    form("[&U](1,2,3);x", enough, NULL, NORBELATH_WRONG_BYTE, 12);
+}
+
+/* A mark is one token in capitals, once before a tree; any `[` there begins one. */
+static void broken_marks(void)
+{
+    const size_t enough = NORBELATH_FORM_OUT;
+    form("[", enough, NULL, NORBELATH_WRONG_BYTE, 1);
+    form("[1,2];", enough, NULL, NORBELATH_WRONG_BYTE, 1);
+    form("[ &U]1;", enough, NULL, NORBELATH_WRONG_BYTE, 1);
+    form("[&", enough, NULL, NORBELATH_WRONG_BYTE, 2);
+    form("[&u]1;", enough, NULL, NORBELATH_WRONG_BYTE, 2);
+    form("[&W 1]1;", enough, NULL, NORBELATH_WRONG_BYTE, 2);
+    form("[&U 1;", enough, NULL, NORBELATH_WRONG_BYTE, 3);
+    form("[&R", enough, NULL, NORBELATH_WRONG_BYTE, 3);
+    form("[&U]", enough, NULL, NORBELATH_WRONG_BYTE, 4);
+    form("[&U][&U]1;", enough, NULL, NORBELATH_WRONG_BYTE, 4);
+    form("[&R] [&U]1;", enough, NULL, NORBELATH_WRONG_BYTE, 5);
+    form("([&U]1,2);", enough, NULL, NORBELATH_WRONG_BYTE, 1);
+    form("1[&U];", enough, NULL, NORBELATH_WRONG_BYTE, 1);
+}
+
+/* At the comma or the closing bracket that shows it. */
+static void wrong_numbers_of_children(void)
+{
+    const size_t enough = NORBELATH_FORM_OUT;
+    form("[&U](1);", enough, NULL, NORBELATH_WRONG_BYTE, 6);
+    form("[&U]((1,2),3);", enough, NULL, NORBELATH_WRONG_BYTE, 12);
+    form("[&U](1,(2,3) );", enough, NULL, NORBELATH_WRONG_BYTE, 13);
+    form("[&U](1,2,3,4);", enough, NULL, NORBELATH_WRONG_BYTE, 10);
+    form("[&U]((1,2,3),4,5);", enough, NULL, NORBELATH_WRONG_BYTE, 9);
+    form("[&U](1,2,(3));", enough, NULL, NORBELATH_WRONG_BYTE, 11);
+    form("[&R](1,2,3);", enough, NULL, NORBELATH_WRONG_BYTE, 8);
+    form("((1,2),3,4);", enough, NULL, NORBELATH_WRONG_BYTE, 8);
+}
+
+/* Writes the longest text of an unrooted tree: a comb from its smallest label on. */
+static void write_longest_unrooted(char text[LONGEST_UNROOTED + 1])
+{
+    char *at = text + sprintf(text, "[&U](1,2");
+    for (unsigned label = 3; label < 64; label++) {
+        at += sprintf(at, ",(%u", label);
+    }
+    at += sprintf(at, ",64");
+    memset(at, ')', 62);
+    strcpy(at + 62, ";");
+}
+
+static void longest_unrooted_form(void)
+{
+    char longest[LONGEST_UNROOTED + 1];
+    write_longest_unrooted(longest);
+    check(strlen(longest) == LONGEST_UNROOTED, "form", longest, "the text has another length");
+    form(longest, NORBELATH_FORM_OUT, longest, 0, 0);
 }
 
 static void cuts(void)
@@ -432,6 +508,19 @@ static void cuts(void)
     cut(tree, 0, enough - 1, NULL, NORBELATH_SHORT_SLICE, 0);
 }
 
+/* An unrooted tree is refused at its `;`, before a byte behind it and before the cut number. */
+static void cuts_of_unrooted_trees(void)
+{
+    const size_t enough = NORBELATH_CUT_OUT;
+    cut("[&R](2,1);", 0, enough, "2 1;", 0, 0);
+    cut("[&U](1,2,3);", 0, enough, NULL, NORBELATH_OTHER_KIND, 11);
+    cut("[&U](1,2,3);", 99, enough, NULL, NORBELATH_OTHER_KIND, 11);
+    cut("[&U]7 ;x", 0, enough, NULL, NORBELATH_OTHER_KIND, 6);
+    cut("[&U](1,2,3)", 0, enough, NULL, NORBELATH_WRONG_BYTE, 11);
+    cut("[&U]((1,2),3);", 0, enough, NULL, NORBELATH_WRONG_BYTE, 12);
+    cut("[&U](1,2,3);", 0, enough - 1, NULL, NORBELATH_SHORT_SLICE, 0);
+}
+
 static void pair_answers(void)
 {
     pair("(((1,2),3),4);", "((1,2),(3,4));", NORBELATH_ACCEPTED, 1, 0);
@@ -441,6 +530,35 @@ static void pair_answers(void)
     pair("1;x", "x", NORBELATH_WRONG_BYTE, 0, 2);
     pair("1;", "2;x", NORBELATH_WRONG_BYTE, 1, 2);
     pair("1;", " 2 ; ", NORBELATH_LABELS_DIFFER, 1, 3);
+}
+
+static void unrooted_pair_answers(void)
+{
+    pair("[&U]7;", "[&U]7;", NORBELATH_ACCEPTED, 0, 0);
+    pair("[&U](1,2);", "[&U](2,1);", NORBELATH_ACCEPTED, 0, 0);
+    pair("[&U](1,2,3);", "[&U](3,1,2);", NORBELATH_ACCEPTED, 0, 0);
+    pair("[&U](1,2,(3,4));", "[&U]((1,2),3,4);", NORBELATH_ACCEPTED, 0, 0);
+    pair("[&U](1,2,(3,4));", "[&U](1,(2,3),4);", NORBELATH_ACCEPTED, 1, 0);
+    pair("[&U](1,2,(3,(4,5)));", "[&U](1,4,(3,(2,5)));", NORBELATH_ACCEPTED, 0, 0);
+    pair("[&U](1,2,(3,(4,5)));", "[&U](1,(2,3),(4,5));", NORBELATH_ACCEPTED, 1, 0);
+    /* Only the side with the smallest label can be the one that is moved. */
+    pair("[&U](1,2,(3,(4,(5,6))));", "[&U](1,2,(((3,4),5),6));", NORBELATH_ACCEPTED, 1, 0);
+    /* The edge is the same, but each side has another cut end. */
+    pair("[&U]((1,2),3,((4,5),6));", "[&U]((1,3),2,((4,6),5));", NORBELATH_ACCEPTED, 0, 0);
+    /* Rooted, these two are no neighbours; without their roots they are one topology. */
+    pair("(((1,2),3),4);", "(((3,4),1),2);", NORBELATH_ACCEPTED, 0, 0);
+    pair("[&U](1,2,(3,4));", "[&U]((3,4),1,2);", NORBELATH_ACCEPTED, 0, 0);
+}
+
+/* Another kind goes before other labels, and behind all that is wrong in either text. */
+static void pairs_of_two_kinds(void)
+{
+    pair("1;", "[&U]1;", NORBELATH_OTHER_KIND, 1, 5);
+    pair("[&U](1,2);", "[&R](1,2) ;", NORBELATH_OTHER_KIND, 1, 10);
+    pair("[&U]1;", " 2 ; ", NORBELATH_OTHER_KIND, 1, 3);
+    pair("[&U]1;", "[&U]2;", NORBELATH_LABELS_DIFFER, 1, 5);
+    pair("1;", "[&U]2;x", NORBELATH_WRONG_BYTE, 1, 6);
+    pair("[&U]1;x", "1;", NORBELATH_WRONG_BYTE, 0, 6);
 }
 
 static void tables(void)
@@ -462,6 +580,27 @@ static void tables(void)
     table_refused("(1,2);(1,3);", 12, bytes, numbers, NORBELATH_LABELS_DIFFER, 11);
     table_refused(text, strlen(text), bytes - 1, numbers, NORBELATH_SHORT_SLICE, 0);
     table_refused(text, strlen(text), bytes, numbers - 1, NORBELATH_SHORT_SLICE, 0);
+}
+
+static void unrooted_tables(void)
+{
+    const size_t bytes = NORBELATH_TABLE_TEXTS, numbers = NORBELATH_TABLE_ENDS;
+    const char *text = "[&U]((1,2),3,10);\n[&U](2,(10,1),3);";
+    const char *expected = "[&U](1,2,(3,10));[&U](1,(2,3),10);";
+    struct reply r = table(text, strlen(text), bytes, numbers);
+    check(same(r, NORBELATH_ACCEPTED, 34, 2), "table", text, "another answer was expected");
+    check(memcmp(texts, expected, 34) == 0 && ends[0] == 17 && ends[1] == 34, "table", text,
+          "other texts were expected");
+    check(untouched(texts, 34, sizeof texts) && untouched(ends, 2 * sizeof ends[0], sizeof ends), "table", text,
+          "a slice was changed behind what was written");
+
+    table_refused("(1,2);[&U](1,2);", 16, bytes, numbers, NORBELATH_OTHER_KIND, 15);
+    table_refused("[&U]1;2;x", 9, bytes, numbers, NORBELATH_OTHER_KIND, 7);
+    table_refused("[&U]1;[&U]2;1;", 14, bytes, numbers, NORBELATH_LABELS_DIFFER, 11);
+    table_refused("1;[&U]1", 7, bytes, numbers, NORBELATH_WRONG_BYTE, 7);
+    table_refused("1;[&U", 5, bytes, numbers, NORBELATH_WRONG_BYTE, 5);
+    table_refused(text, strlen(text), bytes - 1, numbers, NORBELATH_SHORT_SLICE, 0);
+    table_refused(text, strlen(text), NORBELATH_MAX_TREES * LONGEST, numbers, NORBELATH_SHORT_SLICE, 0);
 }
 
 /* No trees, one, and copies alone, which are no pair. */
@@ -548,7 +687,7 @@ static void mixed(struct lister l)
 /* 159 copies, and behind them another tree in as many bytes, which is linked with them or not. */
 static void full_of_copies(struct lister l, const char *copy, const char *other, int linked)
 {
-    static char text[NORBELATH_MAX_TREES * 14 + 1];
+    static char text[NORBELATH_MAX_TREES * 20 + 1];
     const size_t size = strlen(copy);
     const uint16_t last = NORBELATH_MAX_TREES - 1;
     const uint16_t number_of_pairs = !linked ? 0 : l.kind == MERGED ? 1 : last;
@@ -567,6 +706,34 @@ static void full_of_copies(struct lister l, const char *copy, const char *other,
     firsts[last] = last;
     islands[last] = linked ? 0 : last;
     listed(l, (struct sample){text, NORBELATH_MAX_TREES, firsts, islands}, expected, number_of_pairs, neighbours);
+}
+
+/* Four trees of five leaves, the last a copy of the first; the third is one move from each other topology. */
+static void unrooted_lists(struct lister l)
+{
+    const struct sample t = {"[&U](2,(3,(4,5)),1);[&U](((2,5),3),4,1);[&U]((4,5),(3,2),1);[&U]((3,(5,4)),2,1);", 4,
+                             (const uint16_t[]){0, 1, 2, 0}, (const uint16_t[]){0, 0, 0, 0}};
+    if (l.kind == INTERCHANGES) {
+        list_refused(l, t.text, strlen(t.text), enough, NORBELATH_OTHER_KIND, 19);
+    } else if (l.kind == MERGED) {
+        listed(l, t, (const uint16_t[]){0, 2, 1, 2}, 2, (const uint16_t[]){1, 1, 2, 0});
+    } else {
+        listed(l, t, (const uint16_t[]){0, 2, 1, 2, 2, 3}, 3, (const uint16_t[]){1, 1, 3, 1});
+    }
+}
+
+/* The first unrooted tree is refused where rooted ones are taken, and else the first tree of another kind. */
+static void lists_of_two_kinds(struct lister l)
+{
+    const int rooted_only = l.kind == INTERCHANGES;
+    list_refused(l, "(1,2);[&U](1,2);", 16, enough, NORBELATH_OTHER_KIND, 15);
+    list_refused(l, "[&R]1;1;[&U]2;x", 15, enough, NORBELATH_OTHER_KIND, 13);
+    list_refused(l, "[&U]1;1;", 8, enough, NORBELATH_OTHER_KIND, rooted_only ? 5 : 7);
+    list_refused(l, "[&U]1;[&U]2;1;", 14, enough, rooted_only ? NORBELATH_OTHER_KIND : NORBELATH_LABELS_DIFFER,
+                 rooted_only ? 5 : 11);
+    list_refused(l, "[&U]((1,2),3);", 14, enough, NORBELATH_WRONG_BYTE, 12);
+    list_refused(l, "[&u]1;", 6, enough, NORBELATH_WRONG_BYTE, 2);
+    short_lists(l, "(1,2);[&U](1,2);", 16);
 }
 
 /* Any choice but 0 keeps copies apart. */
@@ -591,6 +758,12 @@ static void lists(void)
         mixed(listers[i]);
         full_of_copies(listers[i], "((1,2),3);", "((1,3),2);", 1);
         full_of_copies(listers[i], "(((1,2),3),4);", "(((3,4),1),2);", 0);
+        unrooted_lists(listers[i]);
+        lists_of_two_kinds(listers[i]);
+        if (listers[i].kind != INTERCHANGES) {
+            full_of_copies(listers[i], "[&U](1,2,(3,4));", "[&U](1,(2,3),4);", 1);
+            full_of_copies(listers[i], "[&U](1,2,(3,(4,5)));", "[&U](1,4,(3,(2,5)));", 0);
+        }
     }
 }
 
@@ -601,7 +774,7 @@ static void smallest_supports(void)
     supports("", 0, none, 0, "");
     supports(" \t\r\n", 0, none, 0, "");
     supports(" 7 ;", 1, none, 0, "7;");
-    supports("64;064;", 2, none, 0, "64;");
+    supports("64;[&R]064;", 2, none, 0, "64;");
     supports("(64,1);", 1, (const struct clade[]){{BIT(1) | BIT(64), 1}}, 1, "(1,64);");
 }
 
@@ -715,13 +888,13 @@ static struct clade *list_comb(struct clade *at, unsigned label, unsigned by, un
 /* 160 times the deepest tree, which is then the majority tree and fills its slice. */
 static void deepest_majority(void)
 {
-    static char text[NORBELATH_MAX_TREES * NORBELATH_FORM_OUT + 1];
-    char deepest[NORBELATH_FORM_OUT + 1];
+    static char text[NORBELATH_MAX_TREES * LONGEST + 1];
+    char deepest[LONGEST + 1];
     struct clade expected[63];
     strcpy(write_comb(deepest, 1, 1, 64), ";");
     list_comb(expected, 1, 1, 64, NORBELATH_MAX_TREES);
     for (size_t i = 0; i < NORBELATH_MAX_TREES; i++) {
-        memcpy(text + i * NORBELATH_FORM_OUT, deepest, sizeof deepest);
+        memcpy(text + i * LONGEST, deepest, sizeof deepest);
     }
     check(strlen(deepest) == NORBELATH_SUPPORT_OUT, "support", deepest, "the text has another length");
     supports(text, NORBELATH_MAX_TREES, expected, 63, deepest);
@@ -739,7 +912,7 @@ static int by_labels(const void *one, const void *other)
  */
 static void most_clades(void)
 {
-    static char text[NORBELATH_MAX_TREES * NORBELATH_FORM_OUT + 1];
+    static char text[NORBELATH_MAX_TREES * LONGEST + 1];
     static struct clade expected[NORBELATH_SUPPORT_CLADES];
     const unsigned half = 32;
     char star[NORBELATH_SUPPORT_OUT + 1] = "(1", *at = text;
@@ -791,6 +964,12 @@ static void refused_supports(void)
     support_refused("(1,2);(2,2);", 12, support_enough, NORBELATH_LABEL_AGAIN, 9);
     support_refused("(1,2);(1,3);", 12, support_enough, NORBELATH_LABELS_DIFFER, 11);
     support_refused("(1,2);(1,3);x", 13, support_more, NORBELATH_LABELS_DIFFER, 11);
+    support_refused("[&U](1,2,3);", 12, support_enough, NORBELATH_OTHER_KIND, 11);
+    support_refused("[&U]7;x", 7, support_enough, NORBELATH_OTHER_KIND, 5);
+    support_refused("(1,2);[&U](1,3);", 16, support_enough, NORBELATH_OTHER_KIND, 15);
+    support_refused("(1,2);(1,3);[&U](1,2);", 22, support_enough, NORBELATH_LABELS_DIFFER, 11);
+    support_refused("[&U]((1,2),3);", 14, support_enough, NORBELATH_WRONG_BYTE, 12);
+    short_supports("[&U](1,2,3);", 12);
     short_supports("(1,2);(1,2);", 12);
     short_supports("(1,2", 4);
     short_supports("", 0);
@@ -817,7 +996,25 @@ static void sheets(void)
     sheet("(1,2", 4, 0, NULL);
 }
 
-/* 160 copies in so many bytes, and one copy behind them. */
+static void unrooted_sheets(void)
+{
+    const size_t enough = NORBELATH_SHEET_OUT;
+    const char *text = "[&U](2,(3,(4,5)),1);\n[&U](((2,5),3),4,1);\n[&U]((4,5),(3,2),1);\n[&U]((3,(5,4)),2,1);\n";
+    const char *expected = "trees 4 pairs 3\n"
+                           "tree 0 neighbours 1 unlinked 1 [&U](1,2,(3,(4,5)));\n"
+                           "tree 1 neighbours 1 unlinked 2 [&U](1,((2,5),3),4);\n"
+                           "tree 2 neighbours 3 unlinked 0 [&U](1,(2,3),(4,5));\n"
+                           "tree 3 neighbours 1 unlinked 1 [&U](1,2,(3,(4,5)));\n"
+                           "pair 0 2\npair 1 2\npair 2 3\n";
+    sheet(text, strlen(text), enough, expected);
+    sheet(text, strlen(text), enough + 1, expected);
+    sheet(text, strlen(text), enough - 1, NULL);
+    sheet("[&U] 7 ;", 8, enough, "trees 1 pairs 0\ntree 0 neighbours 0 unlinked 0 [&U]7;\n");
+    sheet("(1,2);[&U](1,2);", 16, enough, "refused 10 at 15\n");
+    sheet("[&U]((1,2),3);", 14, enough, "refused 1 at 12\n");
+}
+
+/* 160 copies in so many bytes, and something of this size behind them. */
 static void list_limits(struct lister l, const char *text, size_t full, size_t size)
 {
     struct reply r = list(l, text, full, enough);
@@ -833,6 +1030,31 @@ static void support_limits(const char *text, size_t full, size_t size)
     check(same(r, NORBELATH_ACCEPTED, 1, size) && third == NORBELATH_MAX_TREES, "support", text,
           "160 trees were expected");
     support_refused(text, full + size, support_enough, NORBELATH_TOO_MANY_TREES, full);
+}
+
+/* 160 of the longest unrooted trees are accepted, and even a `[` behind them is refused. */
+static void unrooted_limits(void)
+{
+    static char text[NORBELATH_MAX_TREES * LONGEST_UNROOTED + 2];
+    const size_t size = LONGEST_UNROOTED, full = NORBELATH_MAX_TREES * size;
+    for (size_t i = 0; i < NORBELATH_MAX_TREES; i++) {
+        write_longest_unrooted(text + i * size);
+    }
+    strcpy(text + full, "[");
+    struct reply r = table(text, full, NORBELATH_TABLE_TEXTS, NORBELATH_TABLE_ENDS);
+    check(same(r, NORBELATH_ACCEPTED, full, NORBELATH_MAX_TREES), "table", text, "160 trees were expected");
+    check(memcmp(texts, text, full) == 0 && untouched(texts, full, sizeof texts), "table", text,
+          "the same texts were expected");
+    table_refused(text, full + 1, NORBELATH_TABLE_TEXTS, NORBELATH_TABLE_ENDS, NORBELATH_TOO_MANY_TREES, full);
+    for (size_t i = 0; i < LISTERS; i++) {
+        if (listers[i].kind == INTERCHANGES) {
+            list_refused(listers[i], text, full + 1, enough, NORBELATH_OTHER_KIND, size - 1);
+        } else {
+            list_limits(listers[i], text, full, 1);
+        }
+    }
+    support_refused(text, full + 1, support_enough, NORBELATH_OTHER_KIND, size - 1);
+    sheet(text, full + 1, NORBELATH_SHEET_OUT, "refused 6 at 49760\n");
 }
 
 /* 160 trees are accepted and a 161st is refused; so is a text of one byte too many, whatever it holds. */
@@ -879,9 +1101,17 @@ int main(void)
 {
     forms();
     deepest_form();
+    unrooted_forms();
+    broken_marks();
+    wrong_numbers_of_children();
+    longest_unrooted_form();
     cuts();
+    cuts_of_unrooted_trees();
     pair_answers();
+    unrooted_pair_answers();
+    pairs_of_two_kinds();
     tables();
+    unrooted_tables();
     lists();
     every_choice();
     smallest_supports();
@@ -893,7 +1123,9 @@ int main(void)
     most_clades();
     refused_supports();
     sheets();
+    unrooted_sheets();
     limits();
+    unrooted_limits();
     printf("C: %d checks, %d failed\n", checks, failures);
     return failures != 0;
 }

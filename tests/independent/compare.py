@@ -18,11 +18,11 @@ without trees, the status has to be 0 and standard error empty too: a program
 that could not read its input leaves its output empty as well.
 
 The exit status is 1 if there was a mismatch, or if one of the refusal numbers
-1, 2, 3, 4, 5, 6 and 8 never came up, or, with --support, if there were too few
-tables of a sort that this call can go wrong on, so that the comparison says less
-than it seems to; otherwise 0.  A case can be looked at again by writing the same
-cases to files: `generate.py S N OUTDIR`, for this call `generate.py --support S
-N OUTDIR`.
+1, 2, 3, 4, 5, 6, 8 and 10 never came up, or if there were too few tables of a
+sort that the program can go wrong on, so that the comparison says less than it
+seems to; otherwise 0.  A case can be looked at again by writing the same cases to
+files: `generate.py S N OUTDIR`, with --rooted for the program of interchanges and
+with --support for that of support.
 """
 
 import argparse
@@ -36,7 +36,7 @@ import generate
 import reference
 
 DEFAULT_COUNT = 5000
-REFUSALS_OF_THE_LISTER = (1, 2, 3, 4, 5, 6, 8)
+REFUSALS_OF_THE_LISTER = (1, 2, 3, 4, 5, 6, 8, 10)
 MISMATCHES_SHOWN = 5
 BYTES_SHOWN = 700
 SECONDS_PER_CASE = 60
@@ -77,6 +77,29 @@ SUPPORT_FLOORS = {
     "309 bytes": 10,
 }
 
+# The same for the programs that take trees of both kinds: a third of what the
+# generator makes, or up to half.
+KIND_FLOORS = {
+    # Rooted trees, some of them with their mark.
+    "marked": 20,
+    # Unrooted trees; of one leaf, of two, of the longest text.
+    "unrooted": 170,
+    "unrooted of one leaf": 10,
+    "unrooted of two leaves": 10,
+    "unrooted of 311 bytes": 3,
+    # With neighbours; with several topologies and no neighbours; with copies only;
+    # with copies and others.
+    "unrooted with pairs": 90,
+    "unrooted without pairs": 15,
+    "unrooted copies only": 35,
+    "unrooted copies beside others": 40,
+    # 160 trees; these with neighbours.
+    "unrooted and full": 7,
+    "unrooted and full with pairs": 3,
+}
+
+UNROOTED_MARK = b"[&U]"
+
 
 class Run(NamedTuple):
     """What one run of the program gave; the status is None after a time-out."""
@@ -95,6 +118,11 @@ class Subject(NamedTuple):
     cases: Callable = generate.cases
     sorts: Callable = lambda text, expected: ()
     floors: dict = {}
+
+
+def both_kinds(sheet):
+    """The Subject of a program that takes trees of both kinds."""
+    return Subject(sheet, generate.cases, kind_sorts, KIND_FLOORS)
 
 
 def run_program(program, text):
@@ -165,6 +193,38 @@ def show_mismatch(name, text, expected, run):
 def refusal_number(expected):
     """The number of a refusal's sheet, or None for an accepted table."""
     return int(expected.split()[1]) if expected.startswith(b"refused ") else None
+
+
+def kind_sorts(text, expected):
+    """The sorts of KIND_FLOORS that an accepted table is of, as a list."""
+    texts = reference.table(text).texts
+    topologies = len(set(texts))
+    if not texts or not texts[0].startswith(UNROOTED_MARK):
+        return ["marked"] if b"[&R]" in text else []
+    leaves = texts[0].count(b",") + 1
+    full = len(texts) == 160
+    pairs = has_pairs(expected, topologies)
+    holds = {
+        "unrooted": True,
+        "unrooted of one leaf": leaves == 1,
+        "unrooted of two leaves": leaves == 2,
+        "unrooted of 311 bytes": len(texts[0]) == 311,
+        "unrooted with pairs": pairs,
+        "unrooted without pairs": topologies > 1 and not pairs,
+        "unrooted copies only": topologies == 1 < len(texts),
+        "unrooted copies beside others": 1 < topologies < len(texts),
+        "unrooted and full": full,
+        "unrooted and full with pairs": full and pairs,
+    }
+    return [sort for sort in holds if holds[sort]]
+
+
+def has_pairs(expected, topologies):
+    """Whether a sheet lists pairs; that of islands shows them by having fewer
+    islands than there are topologies."""
+    if expected.startswith(b"island "):
+        return len(expected.splitlines()) < topologies
+    return b"\npair " in expected
 
 
 def support_sorts(text, expected):
@@ -249,15 +309,16 @@ def main(arguments):
     parser.add_argument("program", help="path of the pair lister")
     others = parser.add_mutually_exclusive_group()
     others.add_argument("--interchanges", action="store_const", dest="subject",
-                        const=Subject(reference.interchange_sheet), help="the program is that of interchanges.c")
-    others.add_argument("--graphs", action="store_const", dest="subject", const=Subject(reference.graphs_sheet),
-                        help="the program is that of graphs.c")
+                        const=Subject(reference.interchange_sheet, generate.rooted_cases),
+                        help="the program is that of interchanges.c")
+    others.add_argument("--graphs", action="store_const", dest="subject",
+                        const=both_kinds(reference.graphs_sheet), help="the program is that of graphs.c")
     others.add_argument("--support", action="store_const", dest="subject",
                         const=Subject(reference.support_sheet, generate.support_cases, support_sorts, SUPPORT_FLOORS),
                         help="the program is that of supports.c")
-    others.add_argument("--islands", action="store_const", dest="subject", const=Subject(reference.island_sheet),
-                        help="the program is that of islands")
-    parser.set_defaults(subject=Subject(reference.sheet))
+    others.add_argument("--islands", action="store_const", dest="subject",
+                        const=both_kinds(reference.island_sheet), help="the program is that of islands")
+    parser.set_defaults(subject=both_kinds(reference.sheet))
     parser.add_argument("--seed", type=int, default=1)
     parser.add_argument("--count", type=int, default=DEFAULT_COUNT)
     options = parser.parse_args(arguments)

@@ -2,7 +2,7 @@
 """Test inputs for the pair lister, and for the programs of interchanges, of
 islands and of support.
 
-    generate.py [--support] SEED COUNT OUTDIR
+    generate.py [--rooted | --support] SEED COUNT OUTDIR
 
 writes COUNT files into OUTDIR, each one standard input for these programs.
 The same seed gives the same files, and a case depends on the seed and its own
@@ -10,23 +10,28 @@ position only, so a larger COUNT keeps the earlier cases.  A file name holds
 the position and the kind of the case: `00017-one-move-apart.txt`.
 
 The first cases are the fixed ones (the same for every seed): the samples of
-document 01, all trees of up to five leaves, copies in different places, the
-limits and their neighbours, and a text for each way a refusal can come about.
-All others are drawn at random.  With --support there are further fixed cases
-and further kinds, among them full tables of the largest trees, on which the
-moves of all trees would take too long.
+document 01, all rooted trees of up to five leaves and unrooted ones of up to
+six, copies in different places, the limits and their neighbours, and a text for
+each way a refusal can come about.  All others are drawn at random.  With
+--rooted few of these are unrooted, for the programs that take rooted trees only.
+With --support, for one of these programs, there are further fixed cases and
+further kinds, among them full tables of the largest trees, on which the moves of
+all trees would take too long.
 
 Trees are nested tuples here: a leaf is its label, a fork is (first, second).
-A node is named by its path from the root, a tuple of 0 and 1.  Nothing is
-taken over from reference.py, so that moves made here also test the moves
-listed there.
+A node is named by its path from the root, a tuple of 0 and 1.  An unrooted tree
+is an Unrooted, which holds such tuples as the tree is written; for a move it is
+a set of edges.  Nothing is taken over from reference.py, so that moves made here
+also test the moves listed there.
 """
 
 import argparse
+import dataclasses
 import itertools
 import os
 import random
 import sys
+from typing import Callable, NamedTuple
 
 BLANKS = (b" ", b"\t", b"\r", b"\n")
 MOST_BYTES = 65535
@@ -34,11 +39,13 @@ MOST_TREES = 160
 MOST_OPEN = 63
 ALL_LABELS = tuple(range(1, 65))
 
+MARKS = (b"[&U]", b"[&R]")
+
 # Bytes that random damage prefers: tokens, digits, blanks, and bytes that are
 # easily taken for one of them.
 TELLING_BYTES = (
-    b"(),;0123456789 \t\r\n"
-    b"\x00\x0b\x0c\x1f!/:[]{}.-+'_#aAxX\x7f\x80\x85\xa0\xb2\xff"
+    b"(),;0123456789 \t\r\n[&UR]"
+    b"\x00\x0b\x0c\x1f!/:{}.-+'_#aAxXur\x7f\x80\x85\xa0\xb2\xff"
 )
 
 # Labels out of range.  Among them are numbers that are 1 or 64 again when
@@ -54,8 +61,16 @@ BAD_LABELS = (
 # Trees and moves
 
 
+@dataclasses.dataclass(frozen=True)
+class Unrooted:
+    """An unrooted tree as it is written: nested tuples with three children at the
+    top if it has three or more leaves."""
+
+    top: object
+
+
 def is_leaf(tree):
-    """Whether the tree is a single leaf."""
+    """Whether the nested tuples are a single leaf."""
     return not isinstance(tree, tuple)
 
 
@@ -102,7 +117,9 @@ def remainder_paths(tree, source):
 
 
 def all_moves(tree):
-    """The results of all moves on a tree, as a list."""
+    """The results of all moves on a tree of either kind, as a list."""
+    if isinstance(tree, Unrooted):
+        return [laid_out(edges) for edges in all_edge_moves(edges_of(tree))]
     return [
         move(tree, source, target)
         for source in paths(tree)[1:]
@@ -128,14 +145,28 @@ def all_interchanges(tree):
 
 
 def shape(tree):
-    """A value that is equal for equal topologies: children unordered."""
+    """A value that is equal for equal topologies: children unordered; for
+    unrooted trees the splits."""
+    if isinstance(tree, Unrooted):
+        return splits(edges_of(tree))
     if is_leaf(tree):
         return tree
     return frozenset((shape(tree[0]), shape(tree[1])))
 
 
+def shapes_near(tree):
+    """The shapes of a tree and of all that one move makes of it, as a set."""
+    if isinstance(tree, Unrooted):
+        near = map(splits, all_edge_moves(edges_of(tree)))
+    else:
+        near = map(shape, all_moves(tree))
+    return {shape(tree)}.union(near)
+
+
 def random_move(rng, tree):
-    """The result of one random move; a single leaf stays as it is."""
+    """The result of one random move; a tree that has no move stays as it is."""
+    if isinstance(tree, Unrooted):
+        return random_unrooted_move(rng, tree)
     sources = paths(tree)[1:]
     if not sources:
         return tree
@@ -144,7 +175,8 @@ def random_move(rng, tree):
 
 
 def changing_move(rng, tree):
-    """A random move that changes the topology; needs three leaves."""
+    """A random move that changes the topology; needs three leaves, four in an
+    unrooted tree."""
     while True:
         moved = random_move(rng, tree)
         if shape(moved) != shape(tree):
@@ -152,9 +184,9 @@ def changing_move(rng, tree):
 
 
 def two_moves(rng, tree):
-    """A tree two moves from the given one and no fewer; needs four leaves."""
-    near = {shape(moved) for moved in all_moves(tree)}
-    near.add(shape(tree))
+    """A tree two moves from the given one and no fewer; needs four leaves, five
+    in an unrooted tree."""
+    near = shapes_near(tree)
     while True:
         moved = random_move(rng, random_move(rng, tree))
         if shape(moved) not in near:
@@ -231,7 +263,10 @@ def right_comb(labels):
 
 
 def swapped(rng, tree):
-    """The same topology with children swapped at random forks."""
+    """The same topology with children swapped at random forks; an unrooted tree
+    also with its top at any place."""
+    if isinstance(tree, Unrooted):
+        return tree if is_leaf(tree.top) else laid_out(edges_of(tree), rng)
     if is_leaf(tree):
         return tree
     first, second = swapped(rng, tree[0]), swapped(rng, tree[1])
@@ -241,6 +276,203 @@ def swapped(rng, tree):
 def mirrored(tree):
     """The same topology with children swapped at every fork."""
     return tree if is_leaf(tree) else (mirrored(tree[1]), mirrored(tree[0]))
+
+
+# Unrooted trees as sets of edges.  An edge is a pair of nodes, the smaller first;
+# a leaf is its label, any other node a number below 0.  A single leaf has no edge.
+
+
+def edge(one, other):
+    """The edge between two nodes."""
+    return min(one, other), max(one, other)
+
+
+def edges_of(tree):
+    """The edges of an unrooted tree.
+
+    A top of two children is closed up, so that also the root of a rooted tree
+    is taken out.
+    """
+    edges = set()
+    numbers = itertools.count(-1, -1)
+
+    def add(node):
+        """Add the edges at and below a node; gives the node."""
+        if is_leaf(node):
+            return node
+        own = next(numbers)
+        edges.update(edge(own, add(child)) for child in node)
+        return own
+
+    if is_leaf(tree.top):
+        return edges
+    if len(tree.top) == 2:
+        edges.add(edge(add(tree.top[0]), add(tree.top[1])))
+    else:
+        add(tree.top)
+    return edges
+
+
+def neighbours_of(edges):
+    """For each node the nodes that edges join it to, in ascending order."""
+    neighbours = {}
+    for one, other in sorted(edges):
+        neighbours.setdefault(one, []).append(other)
+        neighbours.setdefault(other, []).append(one)
+    return neighbours
+
+
+def laid_out(edges, rng=None):
+    """The unrooted tree with these edges: the top at any inner node, children in
+    any order, both drawn at random if `rng` is given.  Needs two leaves."""
+    neighbours = neighbours_of(edges)
+    inner = [node for node in neighbours if node < 0]
+
+    def ordered(nodes):
+        """The nodes in the order in which they are to be written."""
+        return rng.sample(nodes, len(nodes)) if rng else nodes
+
+    def below(node, above):
+        """The nested tuples of a node that hangs from another."""
+        if node > 0:
+            return node
+        return tuple(below(other, node) for other in ordered(neighbours[node]) if other != above)
+
+    if not inner:
+        return Unrooted(tuple(ordered(list(neighbours))))
+    return Unrooted(below(ordered(inner)[0], None))
+
+
+def all_layouts(edges):
+    """All ways to write the unrooted tree with these edges, as a list: any top
+    and any order.  Needs three leaves."""
+    neighbours = neighbours_of(edges)
+
+    def below(node, above):
+        """All nested tuples of a node that hangs from another."""
+        if node > 0:
+            return [node]
+        children = [other for other in neighbours[node] if other != above]
+        return [
+            layout for order in itertools.permutations(children)
+            for layout in itertools.product(*(below(child, node) for child in order))
+        ]
+
+    return [Unrooted(top) for node in neighbours if node < 0 for top in below(node, None)]
+
+
+def splits(edges):
+    """For each edge the labels that it parts from the smallest one, as a set."""
+    neighbours = neighbours_of(edges)
+    found = set()
+
+    def labels_from(node, before):
+        """The labels that are reached over a node, not going back."""
+        if node > 0:
+            labels = frozenset((node,))
+        else:
+            labels = frozenset().union(*(labels_from(other, node) for other in neighbours[node] if other != before))
+        found.add(labels)
+        return labels
+
+    if edges:
+        smallest = min(node for node in neighbours if node > 0)
+        labels_from(neighbours[smallest][0], smallest)
+    return frozenset(found)
+
+
+def cuts(edges):
+    """Each edge in each direction, the moved end first, as a list.
+
+    A leaf that stays alone has no edge that the other side could be joined to,
+    so it is never the end that stays.
+    """
+    return [
+        ends for one, other in sorted(edges) for ends in ((one, other), (other, one)) if ends[1] < 0
+    ]
+
+
+def cut(edges, moved, stays):
+    """The edges of the moved side, and those of the other, closed up, when the
+    edge between these ends is cut."""
+    left = edges - {edge(moved, stays)}
+    neighbours = neighbours_of(left)
+    there, waiting = {stays}, [stays]
+    while waiting:
+        new = [node for node in neighbours[waiting.pop()] if node not in there]
+        there.update(new)
+        waiting += new
+    staying = {one for one in left if one[0] in there}
+    one, other = neighbours[stays]
+    closed = staying - {edge(stays, one), edge(stays, other)} | {edge(one, other)}
+    return left - staying, closed
+
+
+def joined(edges, target, new, node):
+    """The edges with a new node on one of them, joined to a given node."""
+    one, other = target
+    return edges - {target} | {edge(one, new), edge(new, other), edge(new, node)}
+
+
+def all_edge_moves(edges):
+    """Yield the edges of each move's result.  The closed-up node is the new one."""
+    for moved, stays in cuts(edges):
+        moving, staying = cut(edges, moved, stays)
+        for target in sorted(staying):
+            yield moving | joined(staying, target, stays, moved)
+
+
+def random_unrooted_move(rng, tree):
+    """The result of one random move; a tree of one leaf or two stays as it is."""
+    edges = edges_of(tree)
+    if len(edges) < 2:
+        return tree
+    moved, stays = rng.choice(cuts(edges))
+    moving, staying = cut(edges, moved, stays)
+    return laid_out(moving | joined(staying, rng.choice(sorted(staying)), stays, moved), rng)
+
+
+def all_edge_sets(labels):
+    """The edges of one unrooted tree for each topology on two or more labels."""
+    if len(labels) == 2:
+        return [{edge(*labels)}]
+    return [
+        joined(edges, target, -len(labels), labels[-1])
+        for edges in all_edge_sets(labels[:-1])
+        for target in sorted(edges)
+    ]
+
+
+def all_unrooted_trees(labels):
+    """One unrooted tree for each topology on these labels."""
+    if len(labels) == 1:
+        return [Unrooted(labels[0])]
+    return [laid_out(edges) for edges in all_edge_sets(labels)]
+
+
+def random_unrooted_tree(rng, labels):
+    """A random unrooted tree on these labels: a rooted one without its root."""
+    return swapped(rng, Unrooted(random_tree(rng, labels)))
+
+
+# Kinds of trees
+
+
+class Rooting(NamedTuple):
+    """A kind of trees: how one is drawn at random, and the fewest leaves of which
+    there are two topologies."""
+
+    grow: Callable
+    least: int
+
+
+ROOTED = Rooting(random_tree, 3)
+UNROOTED = Rooting(random_unrooted_tree, 4)
+
+
+def either_kind(rng):
+    """Rooted in two of three cases."""
+    return rng.choice((ROOTED, ROOTED, UNROOTED))
 
 
 def random_labels(rng, size):
@@ -259,10 +491,16 @@ def random_labels(rng, size):
 
 
 def tokens(tree):
-    """The tokens of a node's text."""
+    """The tokens of a node's text, or of an unrooted tree's without `;`.
+
+    A fork may have any number of children, so that wrong ones can be written.
+    """
+    if isinstance(tree, Unrooted):
+        return [b"[&U]"] + tokens(tree.top)
     if is_leaf(tree):
         return [b"%d" % tree]
-    return [b"("] + tokens(tree[0]) + [b","] + tokens(tree[1]) + [b")"]
+    children = [token for child in tree for token in [b","] + tokens(child)]
+    return [b"("] + children[1:] + [b")"]
 
 
 def table_tokens(trees):
@@ -280,6 +518,21 @@ def some_blanks(rng):
     return b"".join(rng.choice(BLANKS) for _ in range(rng.randint(1, 4)))
 
 
+def labels_of(tree):
+    """The labels of a tree of either kind, in ascending order."""
+    return sorted(int(token) for token in tokens(tree) if token.isdigit())
+
+
+def with_marks(rng, table, share):
+    """The tokens with `[&R]` before this share of the trees without a mark."""
+    marked = []
+    for before, token in zip([b";"] + table, table):
+        if before == b";" and token != b"[&U]" and rng.random() < share:
+            marked.append(b"[&R]")
+        marked.append(token)
+    return marked
+
+
 def with_blanks(rng, table, rate):
     """The tokens with blanks before some of them and perhaps at the end."""
     pieces = []
@@ -294,14 +547,19 @@ def with_blanks(rng, table, rate):
 
 def written(rng, trees):
     """A table in one of several usual or unusual layouts."""
+    return in_layout(rng, table_tokens(trees))
+
+
+def in_layout(rng, table):
+    """The tokens of a table in one of these layouts."""
     way = rng.randrange(5)
     if way == 0:
-        return plain(trees)
+        return b"".join(table)
     if way == 1:
-        return b"".join(plain([tree]) + b"\n" for tree in trees)
+        return b"".join(table).replace(b";", b";\n")
     if way == 2:
-        return b"\r\n".join(plain([tree]) for tree in trees)
-    return with_blanks(rng, table_tokens(trees), rng.choice((0.05, 0.3, 1.0)))
+        return b"".join(table).replace(b";", b";\r\n")[:-2]
+    return with_blanks(rng, table, rng.choice((0.05, 0.3, 1.0)))
 
 
 def padded(rng, text, length):
@@ -314,15 +572,15 @@ def padded(rng, text, length):
 # Random accepted tables
 
 
-def random_table(rng):
+def random_table(rng, rooting=ROOTED):
     """0 to 12 random trees of 1 to 8 leaves."""
     labels = random_labels(rng, rng.randint(1, 8))
-    return [random_tree(rng, labels) for _ in range(rng.randint(0, 12))]
+    return [rooting.grow(rng, labels) for _ in range(rng.randint(0, 12))]
 
 
-def chain_table(rng):
+def chain_table(rng, rooting=ROOTED):
     """Trees made by moves from earlier ones, with copies among them."""
-    trees = [random_tree(rng, random_labels(rng, rng.randint(2, 8)))]
+    trees = [rooting.grow(rng, random_labels(rng, rng.randint(2, 8)))]
     from_last = rng.random() < 0.5
     for _ in range(rng.randint(1, 11)):
         base = trees[-1] if from_last else rng.choice(trees)
@@ -335,9 +593,9 @@ def chain_table(rng):
     return trees
 
 
-def copies_table(rng):
+def copies_table(rng, rooting=ROOTED):
     """One topology several times, children swapped or not; a few others."""
-    tree = random_tree(rng, random_labels(rng, rng.randint(1, 8)))
+    tree = rooting.grow(rng, random_labels(rng, rng.randint(1, 8)))
     trees = []
     for _ in range(rng.randint(2, 12)):
         way = rng.random()
@@ -350,17 +608,17 @@ def copies_table(rng):
     return trees
 
 
-def repeats_table(rng):
+def repeats_table(rng, rooting=ROOTED):
     """Trees made by changing moves from earlier ones, or unrelated, and copies
     of any of them.  The copies are mixed with the others, next to each other,
     or behind all."""
-    labels = random_labels(rng, rng.randint(3, 8))
-    trees = [random_tree(rng, labels)]
+    labels = random_labels(rng, rng.randint(rooting.least, 8))
+    trees = [rooting.grow(rng, labels)]
     for _ in range(rng.randint(1, 5)):
         if rng.random() < 0.7:
             trees.append(changing_move(rng, rng.choice(trees)))
         else:
-            trees.append(random_tree(rng, labels))
+            trees.append(rooting.grow(rng, labels))
     positions = list(range(len(trees)))
     positions += rng.choices(positions, k=rng.randint(1, 8))
     way = rng.randrange(4)
@@ -371,22 +629,22 @@ def repeats_table(rng):
     return [swapped(rng, trees[position]) for position in positions]
 
 
-def one_move_table(rng):
+def one_move_table(rng, rooting=ROOTED):
     """Two trees exactly one move apart."""
-    tree = random_tree(rng, random_labels(rng, rng.randint(3, 8)))
+    tree = rooting.grow(rng, random_labels(rng, rng.randint(rooting.least, 8)))
     return [tree, swapped(rng, changing_move(rng, tree))]
 
 
-def two_moves_table(rng):
+def two_moves_table(rng, rooting=ROOTED):
     """Two trees exactly two moves apart."""
-    tree = random_tree(rng, random_labels(rng, rng.randint(4, 8)))
+    tree = rooting.grow(rng, random_labels(rng, rng.randint(rooting.least + 1, 8)))
     return [tree, swapped(rng, two_moves(rng, tree))]
 
 
-def large_table(rng):
+def large_table(rng, rooting=ROOTED):
     """Two or three trees of 9 to 64 leaves, a move or two from each other."""
     size = rng.choice((9, 12, 16, 24, 32, 33, 48, 63, 64))
-    trees = [random_tree(rng, random_labels(rng, size))]
+    trees = [rooting.grow(rng, random_labels(rng, size))]
     for _ in range(rng.randint(1, 2)):
         moved = random_move(rng, trees[-1])
         if rng.random() < 0.3:
@@ -410,19 +668,18 @@ def interchange_table(rng):
     return trees
 
 
-def island_table(rng):
+def island_table(rng, rooting=ROOTED):
     """Two to four groups of trees, mixed in order.  No tree is one move from a
     tree of another group."""
     sizes = group_sizes(rng)
     # So many leaves that the groups leave most topologies free.
-    leaves = rng.randint(6, 9) if sum(sizes) < 15 else rng.randint(10, 12)
+    leaves = rng.randint(rooting.least + 3, 9) if sum(sizes) < 15 else rng.randint(10, 12)
     labels = random_labels(rng, leaves)
     trees = []
     near = set()  # the topologies of the trees so far, and those one move away
     for size in sizes:
-        group = grown_apart(rng, labels, size, near)
-        for tree in group:
-            near.update(map(shape, [tree] + all_moves(tree)))
+        group = grown_apart(rng, labels, size, near, rooting)
+        near.update(*map(shapes_near, group))
         trees += group
     rng.shuffle(trees)
     return trees
@@ -438,7 +695,7 @@ def group_sizes(rng):
     return [end - start for start, end in zip([0] + ends, ends + [count])]
 
 
-def grown_apart(rng, labels, size, near):
+def grown_apart(rng, labels, size, near, rooting):
     """A group of this size, whose trees have none of the `near` topologies.
 
     Each tree but the first is a move from the one before or from any earlier
@@ -449,7 +706,7 @@ def grown_apart(rng, labels, size, near):
     group = []
     while len(group) < size:
         if not group:
-            tree = random_tree(rng, labels)
+            tree = rooting.grow(rng, labels)
         else:
             tree = group[-1] if from_last else rng.choice(group)
             if rng.random() >= copying:
@@ -459,23 +716,65 @@ def grown_apart(rng, labels, size, near):
     return group
 
 
-def crowd(rng, count):
-    """Exactly `count` trees of 1 to 5 leaves."""
-    labels = random_labels(rng, rng.randint(1, 5))
-    return [random_tree(rng, labels) for _ in range(count)]
+def crowd(rng, count, rooting=ROOTED):
+    """Exactly `count` trees of 1 to 5 leaves, of up to 6 if they are unrooted."""
+    labels = random_labels(rng, rng.randint(1, rooting.least + 2))
+    return [rooting.grow(rng, labels) for _ in range(count)]
 
 
-def crowded_table(rng):
+def crowded_table(rng, rooting=ROOTED):
     """13 to 160 trees, the limit more often than the others."""
-    return crowd(rng, rng.choice((rng.randint(13, MOST_TREES), MOST_TREES - 1, MOST_TREES)))
+    return crowd(rng, rng.choice((rng.randint(13, MOST_TREES), MOST_TREES - 1, MOST_TREES)), rooting)
 
 
-def usual_table(rng):
+def usual_table(rng, rooting=ROOTED):
     """Any table of the small kinds that holds at least one tree."""
     while True:
-        trees = rng.choice((random_table, chain_table, copies_table, repeats_table))(rng)
+        trees = rng.choice((random_table, chain_table, copies_table, repeats_table))(rng, rooting)
         if trees:
             return trees
+
+
+def usual_tokens(rng):
+    """The tokens of such a table of either kind, at times with `[&R]` before
+    rooted trees."""
+    table = table_tokens(usual_table(rng, either_kind(rng)))
+    return with_marks(rng, table, rng.choice((0.0, 0.0, 0.4, 1.0)))
+
+
+def marked_table(rng):
+    """Rooted trees, some or all of them with their mark."""
+    return in_layout(rng, with_marks(rng, table_tokens(usual_table(rng)), rng.choice((0.3, 0.7, 1.0))))
+
+
+def larger_side_table(rng):
+    """Two unrooted trees of 9 to 20 leaves: of the one, a side with more than half
+    of the leaves is moved, and the other side has so many that often no smaller
+    side would do."""
+    while True:
+        leaves = rng.randint(9, 20)
+        tree = random_unrooted_tree(rng, random_labels(rng, leaves))
+        edges = edges_of(tree)
+        # A side of n leaves that is closed up has 2n - 3 edges; four leaves stay or
+        # more, and less than half of them.
+        larger = [ends for ends in cuts(edges) if 5 <= len(cut(edges, *ends)[1]) < leaves - 3]
+        if larger:
+            moved, stays = rng.choice(larger)
+            moving, staying = cut(edges, moved, stays)
+            made = moving | joined(staying, rng.choice(sorted(staying)), stays, moved)
+            return [tree, laid_out(made, rng)]
+
+
+def full_of_two_unrooted(rng):
+    """160 copies of two large unrooted trees, a move or two from each other, as a
+    text with few blanks, so that it is not too long."""
+    one = random_unrooted_tree(rng, random_labels(rng, rng.choice((12, 16, 24, 32, 64))))
+    other = random_move(rng, one)
+    if rng.random() < 0.3:
+        other = random_move(rng, other)
+    more = rng.randint(80, MOST_TREES - 1)
+    trees = copied(rng, [(one, more), (other, MOST_TREES - more)])
+    return with_blanks(rng, table_tokens(trees), rng.choice((0.0, 0.05)))
 
 
 # Random accepted tables for support
@@ -616,7 +915,7 @@ def full_table(rng):
 
 def damaged_bytes(rng):
     """One to three bytes changed, left out, or put in."""
-    text = bytearray(written(rng, usual_table(rng)))
+    text = bytearray(in_layout(rng, usual_tokens(rng)))
     for _ in range(rng.randint(1, 3)):
         damage_byte(rng, text)
     return bytes(text)
@@ -639,7 +938,7 @@ def damage_byte(rng, text):
 
 def damaged_tokens(rng):
     """A token left out, doubled, exchanged with the next, or replaced."""
-    table = table_tokens(usual_table(rng))
+    table = usual_tokens(rng)
     for _ in range(rng.randint(1, 2)):
         damage_token(rng, table)
     return with_blanks(rng, table, rng.choice((0.0, 0.1, 0.5)))
@@ -656,12 +955,12 @@ def damage_token(rng, table):
     elif way == 2 and place + 1 < len(table):
         table[place], table[place + 1] = table[place + 1], table[place]
     else:
-        table[place] = rng.choice((b"(", b")", b",", b";", b"1", b"9", b"64", b"65", b"0"))
+        table[place] = rng.choice((b"(", b")", b",", b";", b"1", b"9", b"64", b"65", b"0") + MARKS)
 
 
 def zeros_before_labels(rng):
     """A table with zeros in front of some labels, at times very many."""
-    table = table_tokens(usual_table(rng))
+    table = usual_tokens(rng)
     share = rng.choice((0.1, 0.5, 1.0))
     for place, token in enumerate(table):
         if token.isdigit() and rng.random() < share:
@@ -671,7 +970,7 @@ def zeros_before_labels(rng):
 
 def damaged_label(rng):
     """A label replaced by one that is out of range, with zeros in front or not."""
-    table = table_tokens(usual_table(rng))
+    table = usual_tokens(rng)
     place = rng.choice([i for i, token in enumerate(table) if token.isdigit()])
     way = rng.randrange(4)
     if way == 0:
@@ -686,13 +985,13 @@ def damaged_label(rng):
 
 def repeated_label(rng):
     """A label replaced by another label of the same tree."""
-    trees = usual_table(rng)
-    while is_leaf(trees[0]):
-        trees = usual_table(rng)
-    table = table_tokens(trees)
+    table = usual_tokens(rng)
+    while b"," not in table:
+        table = usual_tokens(rng)
     places = [i for i, token in enumerate(table) if token.isdigit()]
-    size = len(places) // len(trees)
-    start = size * rng.randrange(len(trees))
+    count = table.count(b";")
+    size = len(places) // count
+    start = size * rng.randrange(count)
     victim, donor = rng.sample(places[start:start + size], 2)
     table[victim] = table[donor]
     return with_blanks(rng, table, rng.choice((0.0, 0.2)))
@@ -700,9 +999,9 @@ def repeated_label(rng):
 
 def other_labels(rng):
     """A tree whose label set differs from the first tree's."""
-    trees = usual_table(rng)
-    labels = sorted(int(token) for token in tokens(trees[0]) if token.isdigit())
-    odd_one = random_tree(rng, other_label_set(rng, labels))
+    rooting = either_kind(rng)
+    trees = usual_table(rng, rooting)
+    odd_one = rooting.grow(rng, other_label_set(rng, labels_of(trees[0])))
     trees.insert(rng.randint(1, len(trees)), odd_one)
     text = written(rng, trees)
     # Sometimes the fault of a later byte, which must not be seen first.
@@ -723,25 +1022,132 @@ def other_label_set(rng, labels):
 
 def truncated(rng):
     """A table cut off at a random place."""
-    text = written(rng, usual_table(rng))
+    text = in_layout(rng, usual_tokens(rng))
     return text[:rng.randrange(len(text) + 1)]
+
+
+def mixed_kinds(rng):
+    """A tree that is not of the first tree's kind, at times on other labels as
+    well, and perhaps further trees of either kind behind it."""
+    first, other = rng.sample((ROOTED, UNROOTED), 2)
+    trees = usual_table(rng, first)
+    labels = labels_of(trees[0])
+    odd_one = other.grow(rng, other_label_set(rng, labels) if rng.random() < 0.3 else labels)
+    place = rng.randint(1, len(trees))
+    trees.insert(place, odd_one)
+    for _ in range(rng.choice((0, 0, 1, 3))):
+        trees.insert(rng.randint(place + 1, len(trees)), rng.choice((first, other)).grow(rng, labels))
+    table = with_marks(rng, table_tokens(trees), rng.choice((0.0, 0.3, 1.0)))
+    # Sometimes the fault of a later byte, which must not be seen first.
+    return in_layout(rng, table) + rng.choice((b"", b"", b"x", b"(", b"[", b"65"))
+
+
+def damaged_mark(rng):
+    """A mark with a wrong byte, one byte short or more, in small letters or with a
+    blank inside; or twice, inside a tree, before its `;`, or with nothing behind
+    it."""
+    table = with_marks(rng, table_tokens(usual_table(rng, either_kind(rng))), 1.0)
+    place = rng.choice([i for i, token in enumerate(table) if token in MARKS])
+    mark = table[place]
+    way = rng.randrange(8)
+    inside = rng.randrange(1, 4)
+    if way == 0:
+        table[place] = wrong_byte_in(rng, mark)
+    elif way == 1:
+        table[place] = mark[:inside]
+        if rng.random() < 0.3:
+            table = table[:place + 1]
+    elif way == 2:
+        table[place] = mark.lower()
+    elif way == 3:
+        table[place] = mark[:inside] + some_blanks(rng) + mark[inside:]
+    elif way == 4:
+        table.insert(place, rng.choice(MARKS))
+    elif way == 5:
+        within = [i for i in range(1, len(table)) if table[i - 1] != b";"]
+        table.insert(rng.choice(within), rng.choice(MARKS))
+    elif way == 6:
+        table.insert(table.index(b";", place), rng.choice(MARKS))
+    else:
+        table.append(rng.choice(MARKS))
+    return with_blanks(rng, table, rng.choice((0.0, 0.1, 0.5)))
+
+
+def wrong_byte_in(rng, mark):
+    """The mark with one byte that makes it none.  No digit stands for the first
+    byte: it would be a label, with faults of its own."""
+    while True:
+        changed = bytearray(mark)
+        place = rng.randrange(4)
+        changed[place] = rng.choice(TELLING_BYTES) if rng.random() < 0.8 else rng.randrange(256)
+        if bytes(changed) not in MARKS and not changed[:1].isdigit():
+            return bytes(changed)
+
+
+def wrong_children(rng):
+    """A table with a tree that has a wrong number of children at one node."""
+    rooting = either_kind(rng)
+    trees = usual_table(rng, rooting)
+    place = rng.randrange(len(trees))
+    tree = trees[place]
+    if isinstance(tree, Unrooted):
+        trees[place] = Unrooted(with_wrong_children(rng, tree.top))
+    else:
+        trees[place] = with_wrong_children(rng, tree)
+    table = with_marks(rng, table_tokens(trees), rng.choice((0.0, 0.3, 1.0)))
+    return in_layout(rng, table) + rng.choice((b"", b"", b"x", b"1;"))
+
+
+def with_wrong_children(rng, top):
+    """The nested tuples of a tree with one child alone in brackets; or with a fork
+    dissolved, so that its children are its parent's; or with two of three
+    children at the top joined."""
+    nodes = wide_paths(top)
+    forks = [path for path in nodes if path and not is_leaf(subtree(top, path))]
+    way = rng.randrange(3)
+    if way == 0 and forks:
+        path = rng.choice(forks)
+        parent = subtree(top, path[:-1])
+        return wide_replaced(top, path[:-1], parent[:path[-1]] + subtree(top, path) + parent[path[-1] + 1:])
+    if way == 1 and not is_leaf(top) and len(top) == 3:
+        first, second, third = top
+        return rng.choice((((first, second), third), (first, (second, third))))
+    path = rng.choice(nodes)
+    return wide_replaced(top, path, (subtree(top, path),))
+
+
+def wide_paths(tree):
+    """The paths of all nodes of nested tuples with any number of children."""
+    if is_leaf(tree):
+        return [()]
+    return [()] + [(place,) + path for place, child in enumerate(tree) for path in wide_paths(child)]
+
+
+def wide_replaced(tree, path, new):
+    """Such tuples with the subtree at a path replaced by a new one."""
+    if not path:
+        return new
+    place = path[0]
+    return tree[:place] + (wide_replaced(tree[place], path[1:], new),) + tree[place + 1:]
 
 
 def too_many(rng):
     """160 trees and then something more than blanks."""
-    trees = crowd(rng, MOST_TREES)
+    trees = crowd(rng, MOST_TREES, either_kind(rng))
     extra = rng.choice((
         plain(trees[:1]), plain(trees[:3]), b"x", b";", b")", b",", b"(", b"0",
         b"65", b"1", b"\x00", b"\xff", b"\x0b", b"(1,1);", b"((((",
+        b"[", b"[&U]", b"[&R]", b"[&U]1;", b"]", b"&",
     ))
     blanks = some_blanks(rng) if rng.random() < 0.5 else b""
     return written(rng, trees) + blanks + extra
 
 
 def too_deep(rng):
-    """64 brackets open at once, in a first or a later tree."""
+    """64 brackets open at once, in a first or a later tree of either kind."""
     labels = rng.sample(ALL_LABELS, 64)
     start, used = [], 0
+    mark = rng.choice(([], [], [b"[&U]"], [b"[&R]"]))
     for _ in range(MOST_OPEN + rng.randint(1, 3)):
         # A leaf on the left of some forks; its label is spent.
         if start and used < 60 and rng.random() < 0.4:
@@ -751,7 +1157,7 @@ def too_deep(rng):
     before = []
     if rng.random() < 0.5:
         before = table_tokens([random_tree(rng, ALL_LABELS) for _ in range(rng.randint(1, 3))])
-    text = with_blanks(rng, before + start, rng.choice((0.0, 0.1)))
+    text = with_blanks(rng, before + mark + start, rng.choice((0.0, 0.1)))
     return text + rng.choice((b"", b"1", b"x", b"0", b")"))
 
 
@@ -768,7 +1174,7 @@ def long_text(rng):
     length = rng.choice((MOST_BYTES, MOST_BYTES, MOST_BYTES + 1, MOST_BYTES + 1, 70000, 131072))
     way = rng.randrange(4)
     if way == 0:
-        return padded(rng, plain(crowd(rng, rng.randint(0, MOST_TREES))), length)
+        return padded(rng, plain(crowd(rng, rng.randint(0, MOST_TREES), either_kind(rng))), length)
     if way == 1:
         return padded(rng, damaged_bytes(rng), length)
     if way == 2:
@@ -779,16 +1185,19 @@ def long_text(rng):
 def noise(rng):
     """Bytes at random, mostly tokens."""
     alphabet = rng.choice((b"(),;12", b"(),;0123456789 \n", TELLING_BYTES, bytes(range(256))))
-    return bytes(rng.choices(alphabet, k=rng.randint(0, 40)))
+    mark = rng.choice((b"",) + MARKS)
+    return mark + bytes(rng.choices(alphabet, k=rng.randint(0, 40)))
 
 
-def accepted(make):
-    """Turn a maker of tables into a maker of texts."""
-    return lambda rng: written(rng, make(rng))
+def accepted(make, rooting=None):
+    """Turn a maker of tables into a maker of texts, of this kind of trees."""
+    if rooting is None:
+        return lambda rng: written(rng, make(rng))
+    return lambda rng: written(rng, make(rng, rooting))
 
 
-# Kind, share among the random cases, maker.
-KINDS = (
+# Kind, share among the random cases, maker.  These are for all programs.
+COMMON_KINDS = (
     ("random-table", 18, accepted(random_table)),
     ("chain", 20, accepted(chain_table)),
     ("copies", 8, accepted(copies_table)),
@@ -799,6 +1208,7 @@ KINDS = (
     ("interchanges", 4, accepted(interchange_table)),
     ("islands", 6, accepted(island_table)),
     ("crowd", 1, accepted(crowded_table)),
+    ("marked", 4, marked_table),
     ("zeros", 4, zeros_before_labels),
     ("deep-comb", 1, deep_comb),
     ("damaged-bytes", 12, damaged_bytes),
@@ -811,14 +1221,37 @@ KINDS = (
     ("too-deep", 2, too_deep),
     ("long-text", 1, long_text),
     ("noise", 3, noise),
+    ("mixed-kinds", 5, mixed_kinds),
+    ("damaged-mark", 6, damaged_mark),
+    ("wrong-children", 6, wrong_children),
 )
 
+# And these for the programs that take trees of both kinds.
+UNROOTED_KINDS = (
+    ("unrooted", 8, accepted(random_table, UNROOTED)),
+    ("unrooted-chain", 10, accepted(chain_table, UNROOTED)),
+    ("unrooted-copies", 4, accepted(copies_table, UNROOTED)),
+    ("unrooted-repeats", 6, accepted(repeats_table, UNROOTED)),
+    ("unrooted-one-move-apart", 6, accepted(one_move_table, UNROOTED)),
+    ("unrooted-two-moves-apart", 4, accepted(two_moves_table, UNROOTED)),
+    ("unrooted-larger-side", 4, accepted(larger_side_table)),
+    ("unrooted-large", 1, accepted(large_table, UNROOTED)),
+    ("unrooted-islands", 3, accepted(island_table, UNROOTED)),
+    ("unrooted-crowd", 2, accepted(crowded_table, UNROOTED)),
+    ("unrooted-full", 1, full_of_two_unrooted),
+)
+
+KINDS = COMMON_KINDS + UNROOTED_KINDS
+
+# For programs that take rooted trees only: any unrooted table is refused alike.
+ROOTED_ONLY_KINDS = COMMON_KINDS + (("unrooted", 3, accepted(usual_table, UNROOTED)),)
+
 # For support.  The tables of groups are left out, as they take long to make.
-SUPPORT_KINDS = tuple(entry for entry in KINDS if entry[0] != "islands") + (
+SUPPORT_KINDS = tuple(entry for entry in ROOTED_ONLY_KINDS if entry[0] != "islands") + (
     ("halves", 16, accepted(halves_table)),
     ("near-copies", 14, accepted(near_copies_table)),
     ("star", 5, accepted(star_table)),
-    ("many-clades", 4, accepted(many_clades_table)),
+    ("many-clades", 6, accepted(many_clades_table)),
     ("full", 3, full_table),
 )
 
@@ -968,6 +1401,156 @@ def copy_cases():
     return [("copy", plain(trees)) for trees in tables]
 
 
+def mark_cases():
+    """Marks where they may stand, broken ones, and marks in wrong places."""
+    texts = [
+        b"[&R]1;", b"[&U]1;", b" [&U] 1 ;", b"\t[&R]\n(1,2);", b"\r[&U]\r(2,1);", b"[&U]\t(3,2,1);",
+        b"[&R](3,(2,1));", b"[&R]((1,2),3);(1,(2,3));\n[&R] ((1,3),2);", b"((1,2),3);[&R](3,(2,1));",
+        b"[&U]007;", b"[&U](010,2,(03,4));",
+    ]
+    # All sorts of wrong bytes for the one mark, a few for the other.
+    for mark, others, blanks in zip(MARKS, (b"[&UR]u(1 \x00\xff", b"[r"), (BLANKS, BLANKS[:1])):
+        # Cut short, with nothing or a tree behind it; one byte left out.
+        texts += [mark[:end] + behind for end in range(1, 5) for behind in (b"", b" ", b"1")]
+        texts += [mark[:place] + mark[place + 1:] + b"(1,2);" for place in range(4)]
+        # One byte for another, and one too many.
+        texts += [
+            mark[:place] + bytes((byte,)) + mark[place + 1:] + b"(1,2);"
+            for place in range(4) for byte in others if mark[place] != byte
+        ]
+        texts += [mark[:place] + blank + mark[place:] + b"(1,2);" for place in range(1, 4) for blank in blanks]
+        texts += [mark.lower() + b"1;", mark + b"]1;", b"[" + mark + b"1;", mark[:3] + b"U]1;", mark + b"U1;"]
+        # Twice, and in other wrong places.
+        texts += [mark + other + b"(1,2);" for other in MARKS] + [mark + b" \n" + mark + b"1;", mark + mark[:2]]
+        texts += [
+            start + mark + end for start, end in (
+                (b"(", b"1,2);"), (b"(1", b",2);"), (b"(1,", b"2);"), (b"(1,2", b");"), (b"(1,2)", b";"), (b"1", b";"),
+                (b"[&U](1,2,", b"3);"), (b"[&U](1,2,3)", b";"), (b"1;", b""), (b"1;", b" "), (b"[&U]1;", b"x"),
+            )
+        ]
+        # With the other faults of a tree behind it.
+        texts += [mark + rest for rest in (b"0;", b"(1,1);", b"(1,65);", b"x", b";", b")", b"(1,2)", b"(1,2);x")]
+    texts += [b"[]1;", b"[c]1;", b"[&W 1]1;", b"[&U&R]1;", b"[&&U]1;", b"&U1;", b"[1]1;", b"(&U)1;", b"[" * 65535]
+    return [("mark", text) for text in dict.fromkeys(texts)]
+
+
+def children_cases():
+    """Right and wrong numbers of children in trees of either kind."""
+    texts = [
+        b"((1,2));", b"((1));", b"(1,(2));", b"((1),2);", b"((1,2),3,4);", b"((1,2,3),4);", b"(1,(2,3,4));",
+        b"(1,2,", b"((1,2),3,", b"(1,2 ,3);",
+    ]
+    texts += [b"[&R]" + text for text in texts] + [b"[&R](1,2,3);", b"[&R](1);"]
+    texts += [
+        b"[&U]" + text for text in (
+            b"(1);", b"((1));", b"((1,2));", b"(1,2);", b"(1,2,3);", b"(1,2,3,4);", b"(1,2,3,4,5);", b"(1,2,3,",
+            b"((1,2),3);", b"(1,(2,3));", b"((1,2),(3,4));", b"((1,2),3 );", b"((1,2) ,3\n);", b"((1,2),3",
+            b"((1,2),3;", b"((1,2),3,4);", b"(1,(2,3),4);", b"(1,2,(3,4));", b"((1,2),(3,4),(5,6));",
+            b"((1,2),3,4,5);", b"((1,2),(3,4),(5,6),7);", b"((1,2),(3,4),(5,6),", b"((1,2,3),4,5);", b"(1,(2,3,4),5);",
+            b"(1,2,(3,4,5));", b"(1,2,(3,4 ,5));", b"(1,2,(3));", b"((1),2,3);", b"(1,(2),3);", b"(1,2,((3,4)));",
+            b"((1,2),((3,4),5));", b"(((1,2),3),4);", b"(1,2,((3,4),5,6));", b"(1,2,(3,(4,5,6)));",
+            b"(1,2,);", b"(1,2,,3);", b"(1,,2);", b"(,1,2);", b"(1,2", b"(1,2,", b"(1,2,3", b"(1,2;", b"(1,2,3;",
+            b"(1,2)3;", b"(1,2,3)4;", b"(1,2,3)(4,5);", b"((1,2)(3,4),5);", b"(1,2 3);", b"(1,1,2);", b"(1,2,2);",
+            b"(1,2,65);", b"(1,2,0);", b"()", b"((),1,2);",
+            # Other faults stand before a wrong number of children, or behind it.
+            b"((1,2),2);", b"((1,2),65);", b"(1,2,3,3);", b"(1,2,3,65);", b"((1,2),3)x", b"(1,2,(3,4,0));",
+        )
+    ]
+    texts += [b"[&U](1,2,3);[&U]((1,2),3);", b"[&U](1,2,3);((1,2),3,4);", b"(1,2);[&U]((1,2),3);", b"(1,2);(1,2,3);"]
+    return [("children", text) for text in texts]
+
+
+def kind_cases():
+    """Trees of both kinds in one table, and what goes before that."""
+    texts = [
+        b"1;[&U]1;", b"[&U]1;1;", b"[&U]1;[&R]1;", b"[&R]1;[&U]1;", b"[&R]1;1;", b"1;[&R]1;", b"[&U]1;[&U]1;",
+        b"(1,2);[&U](1,2);", b"[&U](1,2);(1,2);", b"[&U](1,2,3);((1,2),3);", b"((1,2),3);[&U](1,2,3);",
+        b"[&U](1,2);[&U](2,1);(1,2);[&U](1,2);", b"(1,2);(2,1);[&U](1,2);(1,2);",
+        # Other labels: in the tree of the other kind, before it, and behind it.
+        b"1;[&U]2;", b"[&U]1;2;", b"(1,2);[&U](1,3);", b"[&U](1,2,3);(1,2);", b"1;2;[&U]1;", b"[&U]1;[&U]2;1;",
+        b"1;[&U]1;2;", b"[&U](1,2);[&U](1,3);", b"[&U](1,2,3);[&U](1,2);", b"[&U](1,2,3);[&U](1,2,4);",
+        # Faults before and behind the `;`.
+        b"1;[&U]1", b"1;[&U]1 ", b"1;[&U]1 \n;", b"1;[&U]1;x", b"1;[&U]1x;", b"1;[&U](1,1);", b"1;[&U]65;", b"1;[&U]0;",
+        b"[&U]1;(1,1);", b"[&U]1;(1,2,3);", b"[&U]1;((1", b"[&U]1;1;((", b"[&U]1;1;[", b"[&U]1;1;0;", b"[&U]1;[1;",
+        # An unrooted tree first, with a fault behind it: for rooted trees only, it
+        # is refused at its `;`.
+        b"[&U]1;x", b"[&U]1;(1,1);", b"[&U]1;0;", b"[&U](1,2,3);((((", b"[&U](1,2);[&U](1,3);x", b"[&U]1;[&u]1;",
+    ]
+    for one, other in ((b"1;", b"[&U]1;"), (b"[&U](1,2);", b"(2,1);")):
+        texts += [
+            one * 159 + other, one * 158 + other + one, one + other * 159, one * 160 + other, one * 160 + other[:1],
+            one * 159 + other + one, one * 159 + other + b"x", one * 160 + b" " + other, one * 80 + other * 80,
+        ]
+    texts += [b"[&U]1;" * 160 + extra for extra in (b"", b" \n", b"[&U]1;", b"[&U]2;", b"[", b"]", b"x", b"\n[&R]1;")]
+    texts += [b"1;" * 160 + b"[&R]1;", b"[&R]1;" * 160, b"[&R]1;" * 161, b"[&U](1,2,3);" * 161]
+    return [("kind", text) for text in texts]
+
+
+def unrooted_cases():
+    """Pairs and others, all topologies, copies in all ways of writing, and the
+    limits, of unrooted trees."""
+    texts = [
+        b"[&U](3,2,1);", b"[&U](10,2);", b"[&U]64;", b"[&U]7;[&U]7;", b"[&U](9,10);[&U](10,9);",
+        b"[&U]((1,2),(3,4),5);", b"[&U](5,(4,3),(2,1));[&U](1,2,((3,4),5));", b"[&U]((10,2),(9,64),33);",
+        # Five leaves: the middle one stays, and nothing else.
+        b"[&U](1,2,(3,(4,5)));[&U](1,4,(3,(2,5)));", b"[&U](1,2,(3,(4,5)));[&U](1,5,(3,(2,4)));",
+        b"[&U](1,2,(3,(4,5)));[&U](1,4,(3,(2,5)));[&U](1,4,(2,(3,5)));",
+        # The smallest label is in the side that moves, and in no other way.
+        b"[&U](1,2,(3,(4,(5,6))));[&U](1,2,(((3,4),5),6));",
+        # The side of five leaves moves, and in no other way.
+        b"[&U]((1,((5,6),((7,8),9))),2,(3,4));[&U]((4,((5,6),((7,8),9))),3,(1,2));",
+        # Cut at the edge between three and three, but joined by other ends.
+        b"[&U]((1,2),3,((4,5),6));[&U]((1,3),2,((4,6),5));",
+        b"[&U]((1,2),3,((4,5),6));[&U]((1,3),2,((4,5),6));",
+    ]
+    label_sets = [ALL_LABELS[:size] for size in range(1, 7)]
+    label_sets += [(64, 10, 2), (9, 10, 33, 64), (10, 2, 64, 9, 33), (63, 7, 40, 11, 2, 10)]
+    texts += [plain(all_unrooted_trees(labels)) for labels in label_sets]
+    texts.append(plain(all_unrooted_trees(ALL_LABELS[:7])[::6]))
+    # 160 trees: all of six leaves, and copies, in order and the other way round.
+    six_leaves = all_unrooted_trees(ALL_LABELS[:6])
+    rng = random.Random("fixed unrooted")
+    full = six_leaves + [swapped(rng, tree) for tree in six_leaves[:55]]
+    texts += [plain(full), plain(full[::-1])]
+    # One topology in each way of writing, alone and with a neighbour in the middle.
+    for labels in ((1, 2, 3), (10, 9, 2, 64), (5, 3, 1, 2, 4)):
+        edges = all_edge_sets(labels)[-1]
+        layouts = all_layouts(edges)
+        other = all_unrooted_trees(labels)[:1]
+        texts += [plain(layouts), plain(layouts[:10] + other + layouts[10:])]
+    return [("unrooted", text) for text in texts] + [("limit", text) for text in unrooted_limits()]
+
+
+def unrooted_limits():
+    """At and around the limits: leaves, brackets, trees, bytes."""
+    right = Unrooted((1, 2, right_comb(ALL_LABELS[2:])))
+    left = Unrooted((left_comb(ALL_LABELS[:62]), 63, 64))
+    middle = Unrooted((left_comb(ALL_LABELS[:30]), 31, right_comb(ALL_LABELS[31:])))
+    longest = plain([right])
+    opened = b"[&U]" + b"(" * MOST_OPEN
+    texts = [
+        longest, plain([left]), plain([middle]), plain([right, left, middle]),
+        plain(all_unrooted_trees(ALL_LABELS[:6])) * 2,
+        longest * MOST_TREES, longest * MOST_TREES + b"[", longest * MOST_TREES + longest,
+        longest * 159 + plain([random_move(random.Random("fixed limit"), left)]),
+        longest * 159 + plain([right_comb(ALL_LABELS)]), plain([right_comb(ALL_LABELS)]) * 159 + longest,
+        opened, opened + b"(", opened + b" (", opened + b"1,2", opened + b"1,(", opened + b"1(",
+        b"[&U]" + b"".join(b"(%d," % label for label in range(1, 64)) + b"(", b"1;" + opened + b"(",
+        # 63 brackets at the end of an unrooted tree need 65 labels.
+        longest.replace(b"(63,64)", b"(63,(64,1))"), longest.replace(b"(63,64)", b"(63,(64,65))"),
+    ]
+    tree = b"[&U](1,2,3);"
+    texts += [
+        b" " * 65534 + b"[", b" " * 65533 + b"[&", b" " * 65532 + b"[&U", b" " * 65531 + b"[&U]",
+        b" " * 65532 + b"[&U]",
+        tree + b" " * (65535 - len(tree)), tree + b" " * (65536 - len(tree)), b" " * (65535 - len(tree)) + tree,
+        b" " * (65536 - len(tree)) + tree, tree[:4] + b" " * (65535 - len(tree)) + tree[4:],
+        tree * 160 + b" " * (65535 - 160 * len(tree)), tree * 160 + b" " * (65534 - 160 * len(tree)) + b"[",
+        b"[&U]" * 16384,
+    ]
+    return texts
+
+
 def clade_cases():
     """Clades in as many trees as others, in half of the trees and around it,
     and majority trees with three or more children at a fork."""
@@ -1002,6 +1585,7 @@ def fixed_cases():
     return (
         sample_cases() + all_small_trees_cases() + copy_cases() + byte_cases() + label_cases()
         + label_set_cases() + depth_cases() + count_cases() + length_cases()
+        + unrooted_cases() + mark_cases() + children_cases() + kind_cases()
     )
 
 
@@ -1026,8 +1610,13 @@ def cases_of(fixed, kinds, seed, count):
 
 
 def cases(seed, count):
-    """The cases for all programs but that of support."""
+    """The cases for the programs that take trees of both kinds."""
     return cases_of(fixed_cases(), KINDS, seed, count)
+
+
+def rooted_cases(seed, count):
+    """The cases for the program of interchanges."""
+    return cases_of(fixed_cases(), ROOTED_ONLY_KINDS, seed, count)
 
 
 def support_cases(seed, count):
@@ -1043,8 +1632,12 @@ def file_name(position, kind):
 def main(arguments):
     """Write the case files."""
     parser = argparse.ArgumentParser(description="Write test inputs into files.")
-    parser.add_argument("--support", action="store_const", dest="cases", const=support_cases, default=cases,
+    others = parser.add_mutually_exclusive_group()
+    others.add_argument("--rooted", action="store_const", dest="cases", const=rooted_cases,
+                        help="write the inputs for the program of interchanges")
+    others.add_argument("--support", action="store_const", dest="cases", const=support_cases,
                         help="write the inputs for the program of support")
+    parser.set_defaults(cases=cases)
     parser.add_argument("seed", type=int)
     parser.add_argument("count", type=int)
     parser.add_argument("directory", metavar="outdir")

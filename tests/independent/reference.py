@@ -1,7 +1,7 @@
 #!/usr/bin/env python3
 """Reference program for the pair lister, written from document 01 and, for
-interchanges, islands, merged copies and support, tickets 2, 5, 6 and 7 of
-document 02.
+interchanges, islands, merged copies, support and unrooted trees, tickets 2, 5,
+6, 7 and 8 of document 02.
 
     reference.py [--islands]
 
@@ -25,17 +25,26 @@ for those of interchanges.c, `graphs_sheet(text)` for those of graphs.c,
 `support_sheet(text)` for those of supports.c and `island_sheet(text)` for those
 of the program of islands.  Texts are bytes.  A call that refuses returns a
 Refusal(number, text, place) instead; it is a tuple and equals the plain tuple
-of the same three numbers.
+of the same three numbers.  Trees may be rooted or unrooted, all of a call of one
+kind; cut, interchanges and support take rooted trees only.
 
-How pairs are decided.  A tree's topology is the frozenset of its clades, and
-a clade is a frozenset of labels.  All trees that one move makes from the first
-tree are gone through: every node but the root is pruned, the remainder is
+How pairs are decided.  A rooted tree's topology is the frozenset of its clades,
+and a clade is a frozenset of labels.  All trees that one move makes from the
+first tree are gone through: every node but the root is pruned, the remainder is
 closed up, and the pruned subtree is hung on every edge of the remainder and
 above its root.  Two trees are one move apart when their topologies differ and
 the second's topology is among those of the results.  No forests are compared
-anywhere, so Lemma 2.2 of document 001 is not used.  Interchanges are gone
-through in the same way: every node that is neither the root nor a child of the
-root is taken off and regrafted above its aunt.
+anywhere, so Lemmas 2.2 and 2.3 of document 001 are not used.  Interchanges are
+gone through in the same way: every node that is neither the root nor a child of
+the root is taken off and regrafted above its aunt.
+
+How unrooted trees are held.  An unrooted tree is a graph: for each node, the
+nodes that edges join it to.  No node and no direction of an edge comes before
+another.  Each edge splits the labels into those at its two ends, and the
+topology is the label set and the set of these splits.  Every edge is cut, and
+either side is the moved one; the node at which the other side lost the edge is
+closed up, and the moved side is joined, by its cut end, to every edge that is
+there then.  Only the canonical text has a top.
 
 How copies are merged.  Positions of equal topology are copies, and the smallest
 of them is the first.  The moves from each topology that occurs are gone through
@@ -71,8 +80,9 @@ LARGEST_LABEL = 64
 
 BLANKS = b" \t\r\n"
 DIGITS = b"0123456789"
+UNROOTED_MARK = b"[&U]"
 
-# The refusal numbers of document 01 that can arise here.
+# The refusal numbers of document 01, and 10 of ticket 8, that can arise here.
 BAD_BYTE = 1
 BAD_LABEL = 2
 REPEATED_LABEL = 3
@@ -81,6 +91,7 @@ OTHER_LABELS = 5
 TOO_MANY_TREES = 6
 TEXT_TOO_LONG = 8
 NO_SUCH_CUT = 9
+OTHER_KIND = 10
 
 
 class Refusal(NamedTuple):
@@ -158,7 +169,7 @@ def returns_refusal(call):
     return wrapper
 
 
-# Trees
+# Rooted trees
 
 
 class Tree:
@@ -171,11 +182,23 @@ class Tree:
 
     __slots__ = ("children", "clade", "clades")
 
+    unrooted = False
+
     def __init__(self, children, clade, clades):
         """Use leaf() and fork() instead; they work out clade and clades."""
         self.children = children
         self.clade = clade
         self.clades = clades
+
+    @property
+    def labels(self):
+        """The label set, by the name that both kinds have."""
+        return self.clade
+
+    @property
+    def topology(self):
+        """The topology, by the name that both kinds have."""
+        return self.clades
 
 
 def leaf(label):
@@ -188,6 +211,11 @@ def fork(first, second):
     """The tree whose root has these two children."""
     clade = first.clade | second.clade
     return Tree((first, second), clade, first.clades.union(second.clades, (clade,)))
+
+
+def rooted(written):
+    """The Tree of a label, or of nested tuples of two."""
+    return fork(*map(rooted, written)) if isinstance(written, tuple) else leaf(written)
 
 
 def canonical(tree):
@@ -208,11 +236,13 @@ def node_text(tree):
 
 
 def canonical_text(tree):
-    """The canonical text, `;` included."""
+    """The canonical text of a tree of either kind, `;` included."""
+    if tree.unrooted:
+        return UNROOTED_MARK + unrooted_text(tree) + b";"
     return node_text(canonical(tree)) + b";"
 
 
-# Moves
+# Moves of rooted trees
 
 
 def prunings(tree):
@@ -259,16 +289,6 @@ def moves(tree):
         yield from regrafts(remainder, pruned, remainder.clades | pruned.clades)
 
 
-def reached(tree):
-    """The set of topologies that one move makes from the tree."""
-    return set(moves(tree))
-
-
-def one_move_apart(first, second):
-    """Whether topologies differ and a move leads from first to second."""
-    return first.clades != second.clades and second.clades in reached(first)
-
-
 # Interchanges
 
 
@@ -304,6 +324,179 @@ def reached_by_interchange(tree):
     return {result.clades for result in interchanged(tree)}
 
 
+# Unrooted trees
+
+
+class Unrooted:
+    """An unrooted binary tree as a graph, never changed once made.
+
+    beside    for each node, the frozenset of the nodes that edges join it to:
+              one for a leaf, or none where it is the only one; three for any
+              other node.  A leaf is its label, any other node a number below 0.
+    labels    frozenset of the labels
+    beyond    for each edge in each direction the labels to which it leads
+    topology  the labels and the frozenset of the splits of all edges
+    """
+
+    __slots__ = ("beside", "labels", "beyond", "topology")
+
+    unrooted = True
+
+    def __init__(self, beside):
+        """Work out the rest from the graph."""
+        self.beside = beside
+        self.labels = frozenset(filter(is_label, beside))
+        self.beyond = labels_beyond(beside)
+        self.topology = self.labels, frozenset(split(self.beyond, *edge) for edge in self.beyond)
+
+
+def is_label(node):
+    """Whether a node is a leaf, which is its label."""
+    return node > 0
+
+
+def unrooted(written):
+    """The Unrooted of a label, or of nested tuples of three at the top and of two
+    elsewhere.
+
+    Two leaves are written as one fork, but a node between them would have two
+    edges, so it is closed up.
+    """
+    beside = {}
+    numbers = itertools.count(-1, -1)
+
+    def add(part, neighbours):
+        """Add a node with these neighbours and all that is below it."""
+        is_fork = isinstance(part, tuple)
+        node = next(numbers) if is_fork else part
+        below = [add(child, [node]) for child in part] if is_fork else []
+        beside[node] = frozenset(neighbours + below)
+        return node
+
+    top = add(written, [])
+    return Unrooted(closed_up(beside, top))
+
+
+def gathered(beside, own):
+    """For each edge in each direction, (near, far): the union of own(near, far)
+    and of what is gathered for the edges that lead on from `far`."""
+    sets = {}
+
+    def gather(near, far):
+        """Gather for one edge in one direction, once."""
+        if (near, far) not in sets:
+            further = [gather(far, node) for node in beside[far] - {near}]
+            sets[near, far] = frozenset(own(near, far)).union(*further)
+        return sets[near, far]
+
+    for near in beside:
+        for far in beside[near]:
+            gather(near, far)
+    return sets
+
+
+def labels_beyond(beside):
+    """For each edge in each direction the labels to which it leads."""
+    return gathered(beside, lambda near, far: filter(is_label, [far]))
+
+
+def split(beyond, near, far):
+    """The two label sets at the ends of an edge, as a set of the two."""
+    return frozenset((beyond[near, far], beyond[far, near]))
+
+
+def closed_up(beside, node):
+    """The graph without a node that has two edges, whose neighbours are joined;
+    the same graph if the node has more or fewer."""
+    if len(beside[node]) != 2:
+        return beside
+    one, other = beside[node]
+    closed = {rest: beside[rest] for rest in beside if rest != node}
+    closed[one] = closed[one] - {node} | {other}
+    closed[other] = closed[other] - {node} | {one}
+    return closed
+
+
+def side(beside, cut_off, start):
+    """The graph of the nodes that are still joined to `start` when the edge
+    between it and `cut_off` is cut."""
+    found = {start: beside[start] - {cut_off}}
+    waiting = [start]
+    while waiting:
+        for node in found[waiting.pop()]:
+            if node not in found:
+                found[node] = beside[node]
+                waiting.append(node)
+    return found
+
+
+def unrooted_moves(tree):
+    """Yield the topology of every move's result, the tree's own included.
+
+    Every edge is cut, and the side of either end is the moved one.  The edges of
+    this side split the labels as before, and so does the one by which it is
+    joined again, which splits them as the cut one did.
+    """
+    splits_beyond = gathered(tree.beside, lambda *edge: [split(tree.beyond, *edge)])
+    for stump, moved_end in tree.beyond:
+        as_before = splits_beyond[stump, moved_end]
+        stays = closed_up(side(tree.beside, moved_end, stump), stump)
+        for splits in joinings(stays, tree.beyond[stump, moved_end]):
+            yield tree.labels, as_before | splits
+
+
+def joinings(stays, moved):
+    """For each edge of the side that stays, yield the splits of all edges of this
+    side when the moved labels are joined to that edge by a new node.
+
+    The new node makes two edges of one.  Every edge has the moved labels at its
+    end that is nearer to the new node.  A single node has no edge, and so there
+    is nothing to join it to.
+    """
+    labels = labels_beyond(stays)
+    # (near, far): this edge and those beyond, with the moved labels before them.
+    outwards = gathered(stays, lambda near, far: [frozenset((labels[far, near] | moved, labels[near, far]))])
+    for near, far in outwards:
+        if near < far:
+            yield outwards[near, far] | outwards[far, near]
+
+
+def unrooted_text(tree):
+    """The canonical text without mark and `;`.
+
+    The top is the inner node next to the smallest label; there is none in a tree
+    of one leaf or two.
+    """
+    in_order = [b"%d" % label for label in sorted(tree.labels)]
+    if len(in_order) == 1:
+        return in_order[0]
+    if len(in_order) == 2:
+        return b"(" + b",".join(in_order) + b")"
+    (top,) = tree.beside[min(tree.labels)]
+    return text_away(tree, None, top)
+
+
+def text_away(tree, near, far):
+    """The text of a node as one comes to it from `near`, None at the top."""
+    if is_label(far):
+        return b"%d" % far
+    in_order = sorted(tree.beside[far] - {near}, key=lambda node: min(tree.beyond[far, node]))
+    return b"(" + b",".join(text_away(tree, far, node) for node in in_order) + b")"
+
+
+# Moves of both kinds
+
+
+def reached(tree):
+    """The set of topologies that one move makes from the tree."""
+    return set(unrooted_moves(tree) if tree.unrooted else moves(tree))
+
+
+def one_move_apart(first, second):
+    """Whether topologies differ and a move leads from first to second."""
+    return first.topology != second.topology and second.topology in reached(first)
+
+
 # Reading
 
 
@@ -336,32 +529,54 @@ class Reader:
             self.refuse(BAD_BYTE, self.place)
         self.place += 1
 
-    def tree(self):
-        """Read a node and `;`.  Gives the tree and the place of the `;`."""
-        labels_so_far = set()
-        tree = self.node(0, labels_so_far)
+    def tree(self, rooted_only=False):
+        """Read a mark or none, a node and `;`.  Gives the tree and the place of
+        the `;`, where an unrooted tree is refused if `rooted_only` says so."""
+        make = unrooted if self.mark() == UNROOTED_MARK else rooted
+        tree = make(self.node(0, set(), unrooted_top=make is unrooted))
         self.take(b";")
+        if rooted_only and tree.unrooted:
+            self.refuse(OTHER_KIND, self.place - 1)
         return tree, self.place - 1
 
-    def node(self, open_brackets, labels_so_far):
-        """Read a label or a fork; any other byte is refusal 1."""
+    def mark(self):
+        """Read `[&U]` or `[&R]`, which has no blank inside, and give it; b"" where
+        no bracket of this sort stands."""
+        if self.next_token_byte() != b"[":
+            return b""
+        start = self.place
+        for possible in (b"[", b"&", b"UR", b"]"):
+            if not self.byte_here() or self.byte_here() not in possible:
+                self.refuse(BAD_BYTE, self.place)
+            self.place += 1
+        return self.text[start:self.place]
+
+    def node(self, open_brackets, labels_so_far, unrooted_top=False):
+        """Read a label, or a fork as a tuple; any other byte is refusal 1."""
         byte = self.next_token_byte()
         if byte == b"(":
-            return self.fork(open_brackets, labels_so_far)
+            return self.fork(open_brackets, labels_so_far, unrooted_top)
         if byte and byte in DIGITS:
             return self.label(labels_so_far)
         return self.refuse(BAD_BYTE, self.place)
 
-    def fork(self, open_brackets, labels_so_far):
-        """Read `(` node `,` node `)`; the place is at the `(`."""
+    def fork(self, open_brackets, labels_so_far, unrooted_top):
+        """Read `(` node `,` node `)`; the place is at the `(`.
+
+        The top of an unrooted tree has `,` and a third node before the `)`,
+        unless the tree has two leaves.
+        """
         if open_brackets == MOST_OPEN:
             self.refuse(TOO_DEEP, self.place)
         self.take(b"(")
-        first = self.node(open_brackets + 1, labels_so_far)
+        children = [self.node(open_brackets + 1, labels_so_far)]
         self.take(b",")
-        second = self.node(open_brackets + 1, labels_so_far)
+        children.append(self.node(open_brackets + 1, labels_so_far))
+        if unrooted_top and (len(labels_so_far) > 2 or self.next_token_byte() == b","):
+            self.take(b",")
+            children.append(self.node(open_brackets + 1, labels_so_far))
         self.take(b")")
-        return fork(first, second)
+        return tuple(children)
 
     def label(self, labels_so_far):
         """Read the longest run of digits; the place is at the first digit."""
@@ -376,7 +591,7 @@ class Reader:
         if int(digits) in labels_so_far:
             self.refuse(REPEATED_LABEL, start)
         labels_so_far.add(int(digits))
-        return leaf(int(digits))
+        return int(digits)
 
 
 def refuse_long_text(text, which):
@@ -385,25 +600,27 @@ def refuse_long_text(text, which):
         raise Refused(TEXT_TOO_LONG, which, 0)
 
 
-def read_one(text, which):
+def read_one(text, which, rooted_only=False):
     """Read a text of exactly one tree.  Gives it and the place of its `;`."""
     reader = Reader(text, which)
-    tree, semicolon = reader.tree()
+    tree, semicolon = reader.tree(rooted_only)
     if reader.next_token_byte():
         reader.refuse(BAD_BYTE, reader.place)
     return tree, semicolon
 
 
-def read_table(text):
-    """Read a text of 0 to 160 trees on one label set into a list."""
+def read_table(text, rooted_only=False):
+    """Read a text of 0 to 160 trees of one kind on one label set into a list."""
     refuse_long_text(text, 0)
     reader = Reader(text, 0)
     trees = []
     while reader.next_token_byte():
         if len(trees) == MOST_TREES:
             reader.refuse(TOO_MANY_TREES, reader.place)
-        tree, semicolon = reader.tree()
-        if trees and tree.clade != trees[0].clade:
+        tree, semicolon = reader.tree(rooted_only)
+        if trees and tree.unrooted != trees[0].unrooted:
+            reader.refuse(OTHER_KIND, semicolon)
+        if trees and tree.labels != trees[0].labels:
             reader.refuse(OTHER_LABELS, semicolon)
         trees.append(tree)
     return trees
@@ -426,7 +643,7 @@ def cut(text, number):
     if number < 0:
         raise ValueError("a cut number is 0 or more")
     refuse_long_text(text, 0)
-    tree, _ = read_one(text, 0)
+    tree, _ = read_one(text, 0, rooted_only=True)
     cuts = list(prunings(canonical(tree)))
     if number >= len(cuts):
         raise Refused(NO_SUCH_CUT, 0, 0)
@@ -442,7 +659,9 @@ def pair(text0, text1):
     refuse_long_text(text1, 1)
     first, _ = read_one(text0, 0)
     second, semicolon = read_one(text1, 1)
-    if first.clade != second.clade:
+    if first.unrooted != second.unrooted:
+        raise Refused(OTHER_KIND, 1, semicolon)
+    if first.labels != second.labels:
         raise Refused(OTHER_LABELS, 1, semicolon)
     return one_move_apart(first, second)
 
@@ -469,7 +688,7 @@ def graph_choosing(text, merge):
 @returns_refusal
 def interchanges(text):
     """The pairs of trees one interchange apart, and the counts of these."""
-    trees = read_table(text)
+    trees = read_table(text, rooted_only=True)
     pairs = pairs_of_positions(trees, reached_by_interchange)
     return Interchanges(pairs, neighbour_counts(pairs, len(trees)))
 
@@ -485,7 +704,7 @@ def islands(text):
 def support(text):
     """The clades of a table, each with its number of trees, and the majority
     tree."""
-    trees = read_table(text)
+    trees = read_table(text, rooted_only=True)
     numbers = clade_numbers(trees)
     return Support(listed_clades(numbers), majority_text(trees, numbers), len(trees))
 
@@ -538,7 +757,7 @@ def pairs_of_positions(trees, reach):
             continue
         if firsts[i] not in reached_from:
             reached_from[firsts[i]] = reach(trees[i])
-        if trees[j].clades in reached_from[firsts[i]]:
+        if trees[j].topology in reached_from[firsts[i]]:
             pairs.append((i, j))
     return pairs
 
@@ -556,14 +775,14 @@ def first_by_topology(trees):
     """The first position of each topology that occurs, in a dictionary."""
     first_of = {}
     for position, tree in enumerate(trees):
-        first_of.setdefault(tree.clades, position)
+        first_of.setdefault(tree.topology, position)
     return first_of
 
 
 def first_positions(trees):
     """For each tree the first position of its topology."""
     first_of = first_by_topology(trees)
-    return [first_of[tree.clades] for tree in trees]
+    return [first_of[tree.topology] for tree in trees]
 
 
 def island_numbers(graph_):

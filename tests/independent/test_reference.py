@@ -1,6 +1,7 @@
 #!/usr/bin/env python3
 """Checks of reference.py: the samples of document 01, the order of refusals,
-and properties that hold for all trees, tried on all small and on random trees.
+and properties that hold for all trees of each kind, tried on all small and on
+random trees.
 
     python3 test_reference.py
 """
@@ -14,6 +15,7 @@ import subprocess
 import sys
 import unittest
 
+import compare
 import generate
 import reference
 from reference import (
@@ -41,6 +43,19 @@ LEFT_COMB = generate.plain([generate.left_comb(list(range(1, 65)))])
 RIGHT_COMB = generate.plain([generate.right_comb(list(range(1, 65)))])
 OPEN_63 = b"(" * 63
 
+UNROOTED_COMB = generate.plain([generate.Unrooted((1, 2, generate.right_comb(list(range(3, 65)))))])
+UNROOTED_INPUT = b"[&U](2,1,(3,(4,5)));\n[&U] ((1,2),3,(5,4));\n[&U](1,4,(3,(2,5)));\n[&U](1,2,(4,(3,5)));\n"
+UNROOTED_SHEET = b"""\
+trees 4 pairs 3
+tree 0 neighbours 1 unlinked 1 [&U](1,2,(3,(4,5)));
+tree 1 neighbours 1 unlinked 1 [&U](1,2,(3,(4,5)));
+tree 2 neighbours 1 unlinked 2 [&U](1,((2,5),3),4);
+tree 3 neighbours 3 unlinked 0 [&U](1,2,((3,5),4));
+pair 0 3
+pair 1 3
+pair 2 3
+"""
+
 
 def tree_of(text):
     """The tree of a text that holds exactly one."""
@@ -58,29 +73,29 @@ def kept_apart(text):
     return graph_choosing(text, merge=False)
 
 
-def random_pairs(seed, count, sizes):
-    """Random pairs of nested tuples on one label set: the second is 0, 1 or 2
-    random moves away from the first, or unrelated."""
+def random_pairs(seed, count, sizes, rooting=generate.ROOTED):
+    """Random pairs of the generator's trees on one label set: the second is 0, 1
+    or 2 random moves away from the first, or unrelated."""
     rng = random.Random(seed)
     for _ in range(count):
         labels = generate.random_labels(rng, rng.choice(sizes))
-        first = generate.random_tree(rng, labels)
+        first = rooting.grow(rng, labels)
         second = first
         moves = rng.choice((0, 1, 2, None))
         if moves is None:
-            second = generate.random_tree(rng, labels)
+            second = rooting.grow(rng, labels)
         else:
             for _ in range(moves):
                 second = generate.random_move(rng, second)
         yield first, generate.swapped(rng, second)
 
 
-def texts_with_copies(seed, count):
+def texts_with_copies(seed, count, rooting=generate.ROOTED):
     """Tables of the kinds that have copies, in any layout."""
     rng = random.Random(seed)
     for _ in range(count):
         make = rng.choice((generate.usual_table, generate.repeats_table, generate.island_table))
-        yield generate.written(rng, make(rng))
+        yield generate.written(rng, make(rng, rooting))
 
 
 def support_tables(seed, count):
@@ -141,6 +156,68 @@ def node_from_clades(clades, clade):
 def text_from_clades(clades):
     """The canonical text from the clade set alone."""
     return node_from_clades(clades, max(clades, key=len)) + b";"
+
+
+# Unrooted trees, worked out from splits alone.  They are used in this file only.
+
+
+def unrooted_forests(topology, rooted_side=True):
+    """The set of forests of two components that one cut makes.
+
+    The moved side is rooted by its cut end: it has the parts of splits that lie
+    in it as clades.  The other side is unrooted: its splits are what is left of
+    all splits without the moved labels, so a closed-up node's two edges are one.
+    With `rooted_side` False the moved side is unrooted as well.
+    """
+    labels, splits = topology
+    made = set()
+    for cut_edge in splits:
+        for moved in cut_edge:
+            if rooted_side:
+                component = frozenset(part for one in splits for part in one if part <= moved)
+            else:
+                component = restricted(splits, moved)
+            made.add((moved, component, restricted(splits, labels - moved)))
+    return made
+
+
+def restricted(splits, labels):
+    """The splits that are left of a tree's when only these labels are."""
+    left = [frozenset(part & labels for part in one) for one in splits]
+    return frozenset(one for one in left if frozenset() not in one)
+
+
+def text_from_splits(topology):
+    """The canonical text of an unrooted tree from its splits alone.
+
+    The parts without the smallest label are the clades of the node that this
+    label's edge leads to, whose two children stand behind it.
+    """
+    labels, splits = topology
+    smallest = min(labels)
+    if len(labels) == 1:
+        return b"[&U]%d;" % smallest
+    clades = {part for one in splits for part in one if smallest not in part}
+    behind = node_from_clades(clades, labels - {smallest})
+    if len(labels) > 2:
+        behind = behind[1:-1]
+    return b"[&U](%d,%s);" % (smallest, behind)
+
+
+def topology_of_edges(edges):
+    """The topology of the unrooted tree with these edges, each split found by
+    taking its edge out."""
+    labels = frozenset(node for one in edges for node in one if node > 0)
+    splits = set()
+    for one in edges:
+        reached = {one[0]}
+        while True:
+            further = {node for other in edges - {one} for node in other if reached & set(other)}
+            if further <= reached:
+                break
+            reached |= further
+        splits.add(frozenset((labels & reached, labels - reached)))
+    return labels, frozenset(splits)
 
 
 # Chains, worked out without a search.  They are used in this file only.
@@ -774,6 +851,248 @@ majority (1,2,64);
             self.assertEqual(support_sheet(text), sheet(text))
 
 
+class UnrootedTexts(unittest.TestCase):
+    """Marks, kinds, and the texts of unrooted trees."""
+
+    def check(self, call, expected):
+        """Each text of the dictionary gives what it says."""
+        for text, answer in expected.items():
+            with self.subTest(text=text[:60]):
+                self.assertEqual(call(text), answer)
+
+    def test_forms(self):
+        """The top is next to the smallest label, children by smallest label."""
+        self.check(form, {
+            b"[&U]7;": b"[&U]7;", b" [&U]\t007 ;\n": b"[&U]7;", b"[&U](10,2);": b"[&U](2,10);",
+            b"[&U](3,1,2);": b"[&U](1,2,3);", b"[&U](10,2,1);": b"[&U](1,2,10);",
+            b"[&U]((1,2),(3,4),5);": b"[&U](1,2,((3,4),5));", b"[&U](5,(4,3),(2,1));": b"[&U](1,2,((3,4),5));",
+            b"[&U](4,(1,2),3);": b"[&U](1,2,(3,4));", b"[&U](1,4,(3,(2,5)));": b"[&U](1,((2,5),3),4);",
+            b"[&U]((10,9),(2,64),33);": b"[&U](2,((9,10),33),64);",
+            b"[&U]((1,2),(3,4),(5,6));": b"[&U](1,2,((3,4),(5,6)));",
+        })
+
+    def test_rooted_mark(self):
+        """The mark of a rooted tree is read and not written."""
+        self.check(form, {
+            b"[&R]7;": b"7;", b"\n[&R] ( 3,(2,1));": b"((1,2),3);", b"[&R](10,2);": b"(2,10);",
+        })
+        self.assertEqual(cut(b"[&R](1,2);", 1), b"1 2;")
+        self.assertEqual(table(b"[&R](1,2);(2,1);\n [&R]\n(1,2);"), ([b"(1,2);"] * 3, [6, 12, 18]))
+        self.assertIs(pair(b"[&R]((1,2),3);", b"((1,3),2);"), True)
+
+    def test_tables(self):
+        """Ends count the mark."""
+        self.assertEqual(table(b"[&U]7;[&U] 7;"), ([b"[&U]7;", b"[&U]7;"], [6, 12]))
+        self.assertEqual(
+            table(b"[&U](3,2,1);\n[&U](2,1,3);\n"), ([b"[&U](1,2,3);", b"[&U](1,2,3);"], [12, 24]))
+
+    def test_longest(self):
+        """311 bytes: the mark, 64 labels, 62 forks and 63 commas."""
+        self.assertEqual(len(UNROOTED_COMB), 311)
+        self.assertEqual(form(UNROOTED_COMB), UNROOTED_COMB)
+        self.assertEqual(table(UNROOTED_COMB * 160).ends, [311 * (i + 1) for i in range(160)])
+
+    def test_broken_marks(self):
+        """Refusal 1 at the wrong byte, or at the length."""
+        self.check(form, {
+            b"[": (1, 0, 1), b"[&": (1, 0, 2), b"[&U": (1, 0, 3), b"[&R": (1, 0, 3), b"[&U]": (1, 0, 4),
+            b" [&U] ": (1, 0, 6), b"[&U];": (1, 0, 4), b"[&U])": (1, 0, 4), b"[&U]x": (1, 0, 4),
+            b"[&u]1;": (1, 0, 2), b"[&r]1;": (1, 0, 2), b"[&X]1;": (1, 0, 2), b"[U]1;": (1, 0, 1), b"[]1;": (1, 0, 1),
+            b"[&UR]1;": (1, 0, 3), b"[&U}1;": (1, 0, 3), b"[&U)1;": (1, 0, 3), b"[&U1;": (1, 0, 3),
+            b"[ &U]1;": (1, 0, 1), b"[& U]1;": (1, 0, 2), b"[&U ]1;": (1, 0, 3), b"[\n&R]1;": (1, 0, 1),
+            b"&U]1;": (1, 0, 0), b"(&U]1;": (1, 0, 1), b"{&U}1;": (1, 0, 0), b"[&U]]1;": (1, 0, 4),
+            b"[[&U]1;": (1, 0, 1), b"[1,2];": (1, 0, 1),
+        })
+
+    def test_misplaced_marks(self):
+        """A second mark, one inside a tree, and one behind a tree."""
+        self.check(form, {
+            b"[&U][&U]1;": (1, 0, 4), b"[&R] [&U]1;": (1, 0, 5), b"[&U][": (1, 0, 4), b"([&U]1,2);": (1, 0, 1),
+            b"(1[&U],2);": (1, 0, 2), b"(1,[&R]2);": (1, 0, 3), b"(1,2)[&U];": (1, 0, 5), b"1 [&R];": (1, 0, 2),
+            b"1;[&U]": (1, 0, 2), b"1;[&U]1;": (1, 0, 2), b"[&U](1,2,[&U]3);": (1, 0, 9),
+        })
+        self.check(table, {
+            b"1;[": (1, 0, 3), b"1;[&R": (1, 0, 5), b"1;[&R]": (1, 0, 6), b"1;[&U] ": (1, 0, 7),
+            b"[&U]1;[&U]": (1, 0, 10), b"1;[&R]x": (1, 0, 6), b"1;[&R][&R]1;": (1, 0, 6),
+        })
+
+    def test_children(self):
+        """Refusal 1 at the comma or the closing bracket that shows a wrong number
+        of children."""
+        self.check(form, {
+            b"[&U](1);": (1, 0, 6), b"[&U]((1,2));": (1, 0, 10), b"[&U](1,2,(3));": (1, 0, 11), b"(1);": (1, 0, 2),
+            b"[&U]((1,2),3);": (1, 0, 12), b"[&U](1,(2,3));": (1, 0, 12), b"[&U]((1,2) ,3 \n);": (1, 0, 15),
+            b"[&U]((1,2),(3,4));": (1, 0, 16), b"[&U](((1,2),3),4);": (1, 0, 16),
+            b"[&U](1,2,3,4);": (1, 0, 10), b"[&U]((1,2),3,4,5);": (1, 0, 14), b"[&U](1,2,3 ,": (1, 0, 11),
+            b"[&U](1,2,(3,4,5));": (1, 0, 13), b"[&U]((1,2,3),4,5);": (1, 0, 9),
+            b"[&R](1,2,3);": (1, 0, 8), b"((1,2),3,4);": (1, 0, 8), b"((1,2,3),4);": (1, 0, 5),
+        })
+
+    def test_other_faults(self):
+        """Other bytes and ends where children are counted; labels go before the
+        number of children that would be wrong behind them."""
+        self.check(form, {
+            b"[&U](1,2": (1, 0, 8), b"[&U](1,2;": (1, 0, 8), b"[&U](1,2,": (1, 0, 9), b"[&U](1,2,)": (1, 0, 9),
+            b"[&U](1,2,3": (1, 0, 10), b"[&U](1,2,3;": (1, 0, 10), b"[&U]((1,2),3;": (1, 0, 12),
+            b"[&U]((1,2),3": (1, 0, 12), b"[&U](1,2)3;": (1, 0, 9), b"[&U](1,2,3)4;": (1, 0, 11),
+            b"[&U](1,1);": (3, 0, 7), b"[&U](1,2,2);": (3, 0, 9), b"[&U](1,2,65);": (2, 0, 9), b"[&U]0;": (2, 0, 4),
+            b"[&U]((1,2),2);": (3, 0, 11), b"[&U](1,2);x": (1, 0, 10), b"[&U](1,2)": (1, 0, 9),
+        })
+
+    def test_depth(self):
+        """At most 63 brackets, the top's among them and the mark's not."""
+        self.check(form, {
+            b"[&U]" + OPEN_63: (1, 0, 67), b"[&U]" + OPEN_63 + b"(": (4, 0, 67), b"[&R] " + OPEN_63 + b"(": (4, 0, 68),
+            b"[&U]" + OPEN_63 + b"1(": (1, 0, 68), b"[&U]" + OPEN_63 + b"[": (1, 0, 67),
+            UNROOTED_COMB.replace(b"(63,64)", b"(63,(64,1))"): (3, 0, UNROOTED_COMB.index(b"64") + 4),
+        })
+
+    def test_mixed_kinds(self):
+        """Refusal 10 at the `;` of the first tree of the other kind, before 5."""
+        expected = {
+            b"1;[&U]1;": (10, 0, 7), b"[&U]1;1;": (10, 0, 7), b"[&U]1;[&R]1;": (10, 0, 11), b"1;[&U]1 \n;": (10, 0, 9),
+            b"1;[&U]1;1;": (10, 0, 7), b"1;1;[&U]1;": (10, 0, 9), b"(1,2);[&U](1,3);": (10, 0, 15),
+            b"[&U](1,2,3);(1,2);": (10, 0, 17), b"1;2;[&U]1;": (5, 0, 3), b"1;[&U]1;2;": (10, 0, 7),
+            b"1;[&U]1": (1, 0, 7), b"1;[&U]1;x": (10, 0, 7), b"1;[&U]1x;": (1, 0, 7), b"1;[&U](1,1);": (3, 0, 9),
+            b"[&U]1;[&U]2;": (5, 0, 11), b"[&U](1,2);[&U](1,2,3);": (5, 0, 21),
+        }
+        for call in (table, graph, kept_apart, islands):
+            self.check(call, expected)
+
+    def test_rooted_only(self):
+        """Refusal 10 at the `;` of the first unrooted tree, which may be the first
+        tree, whatever stands behind it."""
+        expected = {
+            b"[&U]1;": (10, 0, 5), b"[&U](1,2,3) ;": (10, 0, 12), b"[&U]1;x": (10, 0, 5), b"[&U]1;2;": (10, 0, 5),
+            b"1;[&U]1;": (10, 0, 7), b"1;[&U]2;": (10, 0, 7), b"1;2;[&U]1;": (5, 0, 3), b"[&U]1": (1, 0, 5),
+            b"[&U]65;": (2, 0, 4), b"[&U]((1,2),3);": (1, 0, 12), b"[&u]1;": (1, 0, 2),
+        }
+        for call in (interchanges, support):
+            self.check(call, expected)
+        self.assertEqual(interchange_sheet(b"[&U](1,2,3);"), b"refused 10 at 11\n")
+        self.assertEqual(support_sheet(b"[&U](1,2,3);"), b"refused 10 at 11\n")
+        self.assertEqual(support(b"[&R](2,1);"), support(b"(1,2);"))
+
+    def test_cut(self):
+        """Refusal 10 at the `;`, before what stands behind it and before 9."""
+        self.check(lambda text: cut(text, 9), {
+            b"[&U](1,2);": (10, 0, 9), b"[&U]7;": (10, 0, 5), b"[&U](1,2);x": (10, 0, 9), b"[&U](1,2); (": (10, 0, 9),
+            b"[&U](1,2)": (1, 0, 9), b"[&U](1,2)x;": (1, 0, 9), b"[&U](1,1);": (3, 0, 7), b"[&R](1,2);": (9, 0, 0),
+        })
+        self.assertEqual(cut(b"[&U](1,2);", 0), (10, 0, 9))
+
+    def test_pair(self):
+        """Both texts whole, then 10, then 5, both at the `;` of text 1."""
+        self.assertEqual(pair(b"[&U]1;", b"1;"), (10, 1, 1))
+        self.assertEqual(pair(b"1;", b" [&U]2 ; "), (10, 1, 7))
+        self.assertEqual(pair(b"[&U]1;", b"2;"), (10, 1, 1))
+        self.assertEqual(pair(b"[&U]1;", b"2;x"), (1, 1, 2))
+        self.assertEqual(pair(b"[&U]1;x", b"1;"), (1, 0, 6))
+        self.assertEqual(pair(b"[&U]1;", b"[&U]2;"), (5, 1, 5))
+        self.assertEqual(pair(b"[&R]1;", b"2;"), (5, 1, 1))
+        self.assertIs(pair(b"[&U]1;", b"[&U]1;"), False)
+
+    def test_number_of_trees(self):
+        """After 160 trees any byte is 6; the 160th may be of the other kind."""
+        for tree in (b"1;", b"[&U]1;"):
+            full = tree * 160
+            for extra in (b"[", b"[&U]1;", b"[&R]1;", b"1;", b"x", b"]"):
+                self.assertEqual(table(full + extra), (6, 0, len(full)))
+                self.assertEqual(graph(full + b" \n" + extra), (6, 0, len(full) + 2))
+            self.assertEqual(len(table(full).texts), 160)
+        self.assertEqual(table(b"1;" * 159 + b"[&U]1;"), (10, 0, 323))
+        self.assertEqual(table(b"[&U]1;" * 159 + b"1;x"), (10, 0, 955))
+
+    def test_length(self):
+        """A mark may end with the longest text."""
+        self.check(table, {
+            b" " * 65531 + b"[&U]": (1, 0, 65535), b" " * 65534 + b"[": (1, 0, 65535),
+            b" " * 65532 + b"[&U]": (8, 0, 0),
+        })
+
+
+class UnrootedPairs(unittest.TestCase):
+    """Known cases of pairs, graphs and islands of unrooted trees."""
+
+    def test_sheets(self):
+        """The sheets of a small table, worked out by hand."""
+        self.assertEqual(sheet(UNROOTED_INPUT), UNROOTED_SHEET)
+        self.assertEqual(island_sheet(UNROOTED_INPUT), b"island 0 4\n")
+        self.assertEqual(graph(UNROOTED_INPUT), ([(0, 3), (2, 3)], [1, 0, 1, 2], [0, 0, 2, 3]))
+        self.assertEqual(kept_apart(UNROOTED_INPUT), ([(0, 3), (1, 3), (2, 3)], [1, 1, 1, 3], [0, 0, 2, 3]))
+        self.assertEqual(islands(UNROOTED_INPUT).numbers, [0, 0, 0, 0])
+        # The last tree joins the others.
+        without_last = b"".join(UNROOTED_INPUT.splitlines()[:3])
+        self.assertEqual(island_sheet(without_last), b"island 0 2\nisland 2 1\n")
+        self.assertEqual(reference.graphs_sheet(without_last), (
+            b"trees 3 pairs 0\ntree 0 neighbours 0 first 0\ntree 1 neighbours 0 first 0\n"
+            b"tree 2 neighbours 0 first 2\n"
+        ) * 2)
+
+    def test_few_leaves(self):
+        """Up to three leaves there is one topology; four leaves have three, each a
+        neighbour of the others."""
+        for tree in (b"[&U]7;", b"[&U](1,2);", b"[&U](1,2,3);"):
+            self.assertIs(pair(tree, tree), False)
+        self.assertEqual(sheet(b"[&U](1,2);[&U](2,1);"), b"""\
+trees 2 pairs 0
+tree 0 neighbours 0 unlinked 0 [&U](1,2);
+tree 1 neighbours 0 unlinked 0 [&U](1,2);
+""")
+        quartets = b"[&U](1,2,(3,4));[&U](1,3,(2,4));[&U](1,4,(2,3));"
+        self.assertEqual(graph(quartets), ([(0, 1), (0, 2), (1, 2)], [2, 2, 2], [0, 1, 2]))
+
+    def test_copies(self):
+        """A copy may have its top at any inner node and any order."""
+        text = b"[&U](1,2,(3,4));[&U]((2,1),4,3);[&U](3,(1,2),4);[&U](2,(4,3),1);[&U](1,3,(2,4));"
+        self.assertEqual(graph(text).firsts, [0, 0, 0, 0, 4])
+        self.assertEqual(graph(text).pairs, [(0, 4)])
+        self.assertEqual(kept_apart(text).pairs, [(0, 4), (1, 4), (2, 4), (3, 4)])
+
+    def test_only_the_middle_stays(self):
+        """Five leaves: without any one leaf the rest is another quartet."""
+        tree = b"[&U](1,2,(3,(4,5)));"
+        for other in (b"[&U](1,4,(3,(2,5)));", b"[&U](1,5,(3,(2,4)));"):
+            self.assertIs(pair(tree, other), False)
+            self.assertIs(pair(other, tree), False)
+        # These two, and the tree itself.
+        all_texts = map(text_of, generate.all_unrooted_trees((1, 2, 3, 4, 5)))
+        self.assertEqual(sum(not pair(tree, other) for other in all_texts), 3)
+
+    def test_smallest_label_moves(self):
+        """The side with the smallest label may be the moved one.  If it had to
+        stay, its edge would be a root, and these would be two moves apart."""
+        self.assertIs(pair(b"[&U](1,2,(3,(4,(5,6))));", b"[&U](1,2,(((3,4),5),6));"), True)
+        self.assertIs(pair(b"(3,(4,(5,6)));", b"(((3,4),5),6);"), False)
+
+    def test_larger_side_moves(self):
+        """The side with more leaves may be the moved one: five leaves move on the
+        other four, and no smaller side could."""
+        one = b"[&U]((1,((5,6),((7,8),9))),2,(3,4));"
+        other = b"[&U]((4,((5,6),((7,8),9))),3,(1,2));"
+        self.assertIs(pair(one, other), True)
+        shared = unrooted_forests(tree_of(one).topology) & unrooted_forests(tree_of(other).topology)
+        self.assertEqual({moved for moved, _, _ in shared}, {frozenset((5, 6, 7, 8, 9))})
+
+    def test_cut_end(self):
+        """The moved side is joined by its cut end: three and three leaves, where
+        one side or both would be joined by another place."""
+        tree = b"[&U]((1,2),3,((4,5),6));"
+        self.assertIs(pair(tree, b"[&U]((1,3),2,((4,5),6));"), True)
+        self.assertIs(pair(tree, b"[&U]((1,2),3,((4,6),5));"), True)
+        self.assertIs(pair(tree, b"[&U]((1,3),2,((4,6),5));"), False)
+
+    def test_refused(self):
+        """The same refusal in all calls for tables of both kinds."""
+        for text in (b"1;[&U]1;", b"[&U]((1,2),3);", b"[&u]1;", b"[&U]1;[&U]2;", b"[&U]1;" * 161):
+            self.assertIsInstance(graph(text), reference.Refusal)
+            self.assertEqual(graph(text), table(text))
+            self.assertEqual(kept_apart(text), table(text))
+            self.assertEqual(islands(text), table(text))
+            self.assertEqual(island_sheet(text), sheet(text))
+            self.assertEqual(sheet(text), b"refused %d at %d\n" % (table(text).number, table(text).place))
+
+
 class AllSmallTrees(unittest.TestCase):
     """Properties tried on every topology of up to five leaves."""
 
@@ -870,6 +1189,271 @@ class AllSmallTrees(unittest.TestCase):
             possible = {tree.clades for tree in trees}
             for tree in trees:
                 self.assertLessEqual(reference.reached(tree), possible)
+
+
+class AllSmallUnrootedTrees(unittest.TestCase):
+    """Properties tried on every unrooted topology of up to six leaves."""
+
+    LABELS = (10, 2, 64, 9, 33, 1)
+
+    def setUp(self):
+        """Trees of each size on scattered labels, as read from their texts."""
+        self.by_size = {
+            size: [tree_of(text_of(tree)) for tree in generate.all_unrooted_trees(self.LABELS[:size])]
+            for size in range(1, 7)
+        }
+
+    def test_number_of_topologies(self):
+        """1, 1, 1, 3, 15, 105 topologies of 2n - 3 splits each, and as many
+        canonical texts."""
+        for size, expected in zip(range(1, 7), (1, 1, 1, 3, 15, 105)):
+            trees = self.by_size[size]
+            self.assertEqual(len({tree.topology for tree in trees}), expected)
+            self.assertEqual(len({reference.canonical_text(tree) for tree in trees}), expected)
+            for tree in trees:
+                self.assertEqual(tree.labels, set(self.LABELS[:size]))
+                self.assertEqual(len(tree.topology[1]), max(0, 2 * size - 3))
+
+    def test_number_of_neighbours(self):
+        """2(n - 3)(2n - 7) from three leaves on.  One leaf and two have no move;
+        the others have one that changes nothing."""
+        for size, trees in self.by_size.items():
+            for tree in trees:
+                made = reference.reached(tree)
+                self.assertEqual(tree.topology in made, size >= 3)
+                expected = 2 * (size - 3) * (2 * size - 7) if size >= 3 else 0
+                self.assertEqual(len(made - {tree.topology}), expected)
+
+    def test_pair_is_symmetric(self):
+        """A move from the first to the second goes back too."""
+        for trees in self.by_size.values():
+            reached = {tree.topology: reference.reached(tree) for tree in trees}
+            for first, second in itertools.combinations(reached, 2):
+                self.assertEqual(second in reached[first], first in reached[second])
+
+    def test_lemma_2_3(self):
+        """Distinct trees: one move apart exactly if they share a forest whose
+        moved side is rooted and whose other side is not."""
+        for trees in self.by_size.values():
+            own = {tree.topology: unrooted_forests(tree.topology) for tree in trees}
+            for first in trees:
+                reached = reference.reached(first)
+                for second in trees:
+                    if first.topology != second.topology:
+                        shared = not own[first.topology].isdisjoint(own[second.topology])
+                        self.assertEqual(second.topology in reached, shared)
+
+    def test_moves_by_edges(self):
+        """The moves made edge by edge in generate.py reach the same set, whether
+        the results are read as texts or their edges are taken out one by one."""
+        for size in range(1, 7):
+            for tree in generate.all_unrooted_trees(self.LABELS[:size]):
+                made = reference.reached(tree_of(text_of(tree)))
+                self.assertEqual({tree_of(text_of(moved)).topology for moved in generate.all_moves(tree)}, made)
+                literal = map(topology_of_edges, generate.all_edge_moves(generate.edges_of(tree)))
+                self.assertEqual(set(literal), made)
+
+    def test_what_the_definition_needs(self):
+        """With six leaves there are trees that are no neighbours because the moved
+        side has to be joined by its cut end, and neighbours only because the
+        side with the smallest label may move."""
+        trees = [tree.topology for tree in self.by_size[6]]
+        reached = reference.reached(self.by_size[6][0])
+        own = unrooted_forests(trees[0])
+        unrooted = unrooted_forests(trees[0], rooted_side=False)
+        cut_end, smallest = 0, 0
+        for other in trees[1:]:
+            if other not in reached:
+                cut_end += not unrooted.isdisjoint(unrooted_forests(other, rooted_side=False))
+            else:
+                shared = own & unrooted_forests(other)
+                smallest += all(1 in moved for moved, _, _ in shared)
+        self.assertGreater(cut_end, 0)
+        self.assertGreater(smallest, 0)
+
+    def test_results_are_trees(self):
+        """Every topology that a move gives is one of the possible ones."""
+        for trees in self.by_size.values():
+            possible = {tree.topology for tree in trees}
+            for tree in trees:
+                self.assertLessEqual(reference.reached(tree), possible)
+
+    def test_all_ways_of_writing(self):
+        """All of them give one topology and one canonical text, which is among
+        them."""
+        for size, expected in ((3, 6), (4, 24), (5, 72)):
+            for edges in generate.all_edge_sets(self.LABELS[:size]):
+                texts = [text_of(layout) for layout in generate.all_layouts(edges)]
+                self.assertEqual(len(set(texts)), expected)
+                (canonical,) = set(map(form, texts))
+                self.assertIn(canonical, texts)
+                self.assertEqual(len({tree_of(text).topology for text in texts}), 1)
+                self.assertEqual(canonical, text_from_splits(topology_of_edges(edges)))
+
+    def test_rooted_moves_are_unrooted_ones(self):
+        """A leaf more at the root makes a rooted tree an unrooted one; rooted
+        neighbours are then unrooted neighbours, but not only they."""
+        more = 0
+        for size in range(2, 6):
+            nested = generate.all_trees(self.LABELS[:size])
+            hung = [tree_of(text_of(generate.Unrooted((63,) + tree))) for tree in nested]
+            trees = [tree_of(text_of(tree)) for tree in nested]
+            self.assertEqual(len({tree.topology for tree in hung}), len(trees))
+            for tree, unrooted in zip(trees, hung):
+                near, unrooted_near = reference.reached(tree), reference.reached(unrooted)
+                for other, unrooted_other in zip(trees, hung):
+                    if other.topology in near:
+                        self.assertIn(unrooted_other.topology, unrooted_near)
+                    else:
+                        more += unrooted_other.topology in unrooted_near
+        self.assertGreater(more, 0)
+
+
+class RandomUnrootedTrees(unittest.TestCase):
+    """Properties tried on random unrooted trees."""
+
+    def pairs(self, seed, count, sizes):
+        """Random pairs of them."""
+        return random_pairs(seed, count, sizes, generate.UNROOTED)
+
+    def test_pair_is_symmetric(self):
+        """The pair call gives the same for both orders, also in a table."""
+        answers = set()
+        for first, second in self.pairs(41, 300, range(1, 10)):
+            one, other = text_of(first), text_of(second)
+            answer = pair(one, other)
+            self.assertEqual(pair(other, one), answer)
+            self.assertEqual(graph(one + other).pairs, [(0, 1)] if answer else [])
+            answers.add(answer)
+        self.assertEqual(answers, {False, True})
+
+    def test_lemma_2_3(self):
+        """Distinct trees: one move apart exactly if they share a forest."""
+        answers = set()
+        for first, second in self.pairs(42, 300, range(5, 12)):
+            one, other = tree_of(text_of(first)), tree_of(text_of(second))
+            if one.topology != other.topology:
+                shared = not unrooted_forests(one.topology).isdisjoint(unrooted_forests(other.topology))
+                self.assertEqual(reference.one_move_apart(one, other), shared)
+                answers.add(shared)
+        self.assertEqual(answers, {False, True})
+
+    def test_moves_by_edges(self):
+        """The moves made edge by edge in generate.py reach the same set."""
+        for tree, _ in self.pairs(43, 60, range(1, 11)):
+            literal = {tree_of(text_of(moved)).topology for moved in generate.all_moves(tree)}
+            self.assertEqual(reference.reached(tree_of(text_of(tree))), literal)
+
+    def test_number_of_neighbours(self):
+        """2(n - 3)(2n - 7), and the tree itself, for larger trees too."""
+        for tree, _ in self.pairs(44, 20, (7, 8, 11, 16, 25)):
+            held = tree_of(text_of(tree))
+            size = len(held.labels)
+            self.assertEqual(len(reference.reached(held)), 2 * (size - 3) * (2 * size - 7) + 1)
+
+    def test_largest_trees(self):
+        """64 leaves: as many neighbours; a move makes a pair."""
+        rng = random.Random(45)
+        tree = generate.random_unrooted_tree(rng, generate.ALL_LABELS)
+        held = tree_of(text_of(tree))
+        made = reference.reached(held)
+        self.assertEqual(len(made), 2 * 61 * 121 + 1)
+        own = unrooted_forests(held.topology)
+        for _ in range(10):
+            moved = tree_of(text_of(generate.changing_move(rng, tree)))
+            self.assertIn(moved.topology, made)
+            self.assertFalse(own.isdisjoint(unrooted_forests(moved.topology)))
+
+    def test_canonical_text(self):
+        """A canonical text is its own, for any top, order and layout; it can be
+        written from the splits."""
+        rng = random.Random(46)
+        for tree, _ in self.pairs(46, 200, (1, 2, 3, 4, 5, 8, 13, 21, 34, 64)):
+            canonical = form(text_of(tree))
+            self.assertEqual(form(canonical), canonical)
+            self.assertEqual(form(generate.written(rng, [generate.swapped(rng, tree)])), canonical)
+            self.assertEqual(canonical, text_from_splits(tree_of(text_of(tree)).topology))
+
+    def test_texts_are_topologies(self):
+        """Equal canonical texts are equal topologies, of both programs."""
+        equal = 0
+        for first, second in self.pairs(47, 300, range(1, 10)):
+            one, other = text_of(first), text_of(second)
+            same = form(one) == form(other)
+            self.assertEqual(same, tree_of(one).topology == tree_of(other).topology)
+            self.assertEqual(same, generate.shape(first) == generate.shape(second))
+            equal += same
+        self.assertGreater(equal, 50)
+
+    def test_tables(self):
+        """Firsts, counts and order of pairs in random tables, copies apart and
+        merged; ends; the lister's sheet."""
+        smaller = 0
+        for text in texts_with_copies(48, 50, generate.UNROOTED):
+            texts, ends = table(text)
+            written = b"".join(texts)
+            self.assertEqual([written[start:end] for start, end in zip([0] + ends, ends)], texts)
+            firsts = [texts.index(one) for one in texts]
+            topologies = {one: tree_of(one).topology for one in texts}
+            near = {one: reference.reached(tree_of(one)) - {topologies[one]} for one in topologies}
+            expected = [
+                (i, j) for i, j in itertools.combinations(range(len(texts)), 2)
+                if topologies[texts[j]] in near[texts[i]]
+            ]
+            merged, apart = graph(text), kept_apart(text)
+            self.assertEqual(apart.pairs, expected)
+            self.assertEqual(merged.pairs, [(i, j) for i, j in expected if firsts[i] == i and firsts[j] == j])
+            lines = [b"trees %d pairs %d" % (len(texts), len(expected))]
+            for i, own in enumerate(texts):
+                neighbours = sum(i in one_pair for one_pair in expected)
+                unlinked = len(texts) - texts.count(own) - neighbours
+                lines.append(b"tree %d neighbours %d unlinked %d %s" % (i, neighbours, unlinked, own))
+            lines += [b"pair %d %d" % one_pair for one_pair in expected]
+            self.assertEqual(sheet(text).splitlines(), lines)
+            for pairs, counts, given in (merged, apart):
+                self.assertEqual(given, firsts)
+                self.assertEqual(counts, [sum(i in one_pair for one_pair in pairs) for i in range(len(texts))])
+            smaller += 0 < len(merged.pairs) < len(apart.pairs)
+        self.assertGreater(smaller, 20)
+
+    def test_islands(self):
+        """Two first positions have one number exactly when a chain joins them,
+        and it is the smallest; a copy has the number of its first."""
+        with_chains = 0
+        for text in texts_with_copies(49, 40, generate.UNROOTED):
+            pairs, counts, firsts, numbers = islands(text)
+            self.assertEqual((pairs, counts, firsts), graph(text))
+            joined = joined_matrix(len(firsts), set(pairs) | set(enumerate(firsts)))
+            self.assertEqual(numbers, [row.index(True) for row in joined])
+            sizes = collections.Counter(numbers)
+            self.assertEqual(island_sheet(text), b"".join(b"island %d %d\n" % item for item in sorted(sizes.items())))
+            with_chains += len(sizes) > 1 and max(counts) > 0
+        self.assertGreater(with_chains, 10)
+
+    def test_rooted_only(self):
+        """The calls for rooted trees refuse each of these tables at its first `;`,
+        and take rooted ones with any marks as without."""
+        rng = random.Random(50)
+        for _ in range(60):
+            text = generate.written(rng, generate.usual_table(rng, generate.UNROOTED))
+            refusal = (10, 0, text.index(b";"))
+            self.assertEqual((interchanges(text), support(text), cut(text, 0)), (refusal,) * 3)
+            tokens = generate.table_tokens(generate.usual_table(rng))
+            plain, marked = b"".join(tokens), generate.in_layout(rng, generate.with_marks(rng, tokens, 0.6))
+            for call in (table, graph, kept_apart, islands, interchanges, support, sheet):
+                self.assertEqual(call(marked), call(plain))
+
+    def test_wrong_roots(self):
+        """The text of a rooted tree of three or more leaves is no unrooted tree:
+        it is refused at its last bracket.  One of three children at the top is no
+        rooted tree: it is refused at the last comma outside the inner brackets."""
+        for tree, _ in random_pairs(51, 60, range(3, 12)):
+            text = text_of(tree)
+            self.assertEqual(form(b"[&U]" + text), (1, 0, len(text) + 2))
+        for tree, _ in self.pairs(52, 60, range(3, 12)):
+            text = text_of(tree)[4:]
+            last_child = text_of(tree.top[2])[:-1]
+            self.assertEqual(form(text), (1, 0, len(text) - len(last_child) - 3))
 
 
 class RandomTrees(unittest.TestCase):
@@ -1185,9 +1769,10 @@ class Generator(unittest.TestCase):
 
     def test_cases_are_determined(self):
         """A case depends on the seed and its position only."""
-        longer = list(generate.cases(3, 400))
-        self.assertEqual(longer[:300], list(generate.cases(3, 300)))
-        self.assertNotEqual(longer, list(generate.cases(4, 400)))
+        fixed = len(generate.fixed_cases())
+        longer = list(generate.cases(3, fixed + 100))
+        self.assertTrue(longer[:fixed + 50] == list(generate.cases(3, fixed + 50)))
+        self.assertFalse(longer == list(generate.cases(4, fixed + 100)))
 
     def test_kinds_keep_their_word(self):
         """Kinds that promise an outcome have it, and all refusals come up."""
@@ -1197,20 +1782,107 @@ class Generator(unittest.TestCase):
             "other-labels": b"refused 5 ", "too-many": b"refused 6 ", "deep-comb": b"trees ",
             "random-table": b"trees ", "chain": b"trees ", "copies": b"trees ", "crowd": b"trees ",
             "interchanges": b"trees ", "islands": b"trees ", "zeros": b"trees ", "repeats": b"trees ",
-            "copy": b"trees ",
+            "copy": b"trees ", "marked": b"trees ", "mixed-kinds": b"refused 10 ", "damaged-mark": b"refused 1 ",
+            "wrong-children": b"refused 1 ", "unrooted-one-move-apart": b"trees 2 pairs 1\n",
+            "unrooted-two-moves-apart": b"trees 2 pairs 0\n",
         }
         refused = set()
-        for position, kind, text in generate.cases(5, 800):
+        for position, kind, text in generate.cases(5, 1300):
             output = sheet(text)
-            self.assertTrue(output.startswith(promised.get(kind, b"")), (position, kind))
-            if kind == "islands":
+            usual = b"trees " if kind.startswith("unrooted") else b""
+            self.assertTrue(output.startswith(promised.get(kind, usual)), (position, kind))
+            if kind in ("islands", "unrooted-islands"):
                 self.assertGreater(len(island_sheet(text).splitlines()), 1, position)
-            if kind in ("copy", "repeats"):
+            if kind in ("copy", "repeats", "unrooted-repeats"):
                 firsts = graph(text).firsts
                 self.assertLess(len(set(firsts)), len(firsts), position)
             if output.startswith(b"refused"):
                 refused.add(int(output.split()[1]))
-        self.assertEqual(refused, {1, 2, 3, 4, 5, 6, 8})
+        self.assertEqual(refused, {1, 2, 3, 4, 5, 6, 8, 10})
+
+    def test_kinds_for_rooted_trees(self):
+        """The cases for rooted trees only have few unrooted tables, which are
+        refused, and the same fixed cases."""
+        fixed = generate.fixed_cases()
+        given = list(generate.rooted_cases(3, len(fixed) + 400))
+        self.assertTrue(given[:len(fixed)] == list(generate.cases(4, len(fixed))))
+        answers = [interchange_sheet(text) for _, _, text in given[len(fixed):]]
+        self.assertGreater(sum(answer.startswith(b"refused 10 ") for answer in answers), 5)
+        self.assertGreater(sum(answer.startswith(b"trees ") for answer in answers), 150)
+
+    def test_unrooted_trees(self):
+        """Edges, layouts and moves of the generator's unrooted trees."""
+        tree = generate.Unrooted(((1, 2), 3, (4, 5)))
+        edges = generate.edges_of(tree)
+        self.assertEqual(len(edges), 7)
+        self.assertEqual(edges, generate.edges_of(generate.Unrooted(((1, 2), 3, (4, 5)))))
+        self.assertEqual(generate.edges_of(generate.Unrooted(7)), set())
+        self.assertEqual(generate.edges_of(generate.Unrooted((2, 1))), {(1, 2)})
+        self.assertEqual(generate.shape(tree), {
+            frozenset(part) for part in ((2,), (3,), (4,), (5,), (4, 5), (3, 4, 5), (2, 3, 4, 5))
+        })
+        # Without a root, three leaves are one topology.
+        for rooted in generate.all_trees((1, 2, 3)):
+            self.assertEqual(
+                generate.shape(generate.Unrooted(rooted)), generate.shape(generate.Unrooted((1, 2, 3))))
+        moving, staying = generate.cut({(-2, -1), (-1, 1), (-1, 2), (-2, 3), (-2, 4)}, -1, -2)
+        self.assertEqual((moving, staying), ({(-1, 1), (-1, 2)}, {(3, 4)}))
+        rng = random.Random(53)
+        for one in (generate.Unrooted(7), generate.Unrooted((1, 2))):
+            self.assertEqual(generate.random_move(rng, one), one)
+        for tree, _ in random_pairs(53, 60, range(3, 20), generate.UNROOTED):
+            self.assertEqual(len(tree.top), 3)
+            for moved in (generate.random_move(rng, tree), generate.swapped(rng, tree)):
+                self.assertEqual(len(moved.top), 3)
+                self.assertEqual(generate.labels_of(moved), generate.labels_of(tree))
+
+    def test_larger_sides(self):
+        """In many of these tables no side of at most half of the leaves could move,
+        in others no change was made."""
+        rng = random.Random(56)
+        needed, same = 0, 0
+        for _ in range(60):
+            one, other = (tree_of(text_of(tree)).topology for tree in generate.larger_side_table(rng))
+            if one == other:
+                same += 1
+                continue
+            shared = unrooted_forests(one) & unrooted_forests(other)
+            self.assertTrue(any(2 * len(moved) > len(one[0]) for moved, _, _ in shared))
+            needed += all(2 * len(moved) > len(one[0]) for moved, _, _ in shared)
+        self.assertGreater(needed, 15)
+        self.assertLess(same, 25)
+
+    def test_wrong_children(self):
+        """A fork of every wrong sort, in trees of both kinds."""
+        rng = random.Random(54)
+        seen = collections.Counter()
+        for _ in range(200):
+            for tree in (((1, 2), (3, 4)), ((1, 2), 3, (4, 5))):
+                wrong = generate.with_wrong_children(rng, tree)
+                numbers = [len(generate.subtree(wrong, path)) for path in generate.wide_paths(wrong)
+                           if not generate.is_leaf(generate.subtree(wrong, path))]
+                seen[len(tree), "one"] += 1 in numbers
+                seen[len(tree), "top of", numbers[0]] += 1
+                seen[len(tree), "wide"] += max(numbers[1:], default=0) > 2
+        for sort in ((2, "one"), (3, "one"), (2, "top of", 3), (3, "top of", 2), (3, "top of", 4)):
+            self.assertGreater(seen[sort], 10, sort)
+
+    def test_sorts(self):
+        """The sorts that the comparison counts; islands tell of pairs too."""
+        self.assertEqual(compare.kind_sorts(b"(1,2);", sheet(b"(1,2);")), [])
+        self.assertEqual(compare.kind_sorts(b"[&R](1,2);", sheet(b"(1,2);")), ["marked"])
+        self.assertEqual(compare.kind_sorts(b"", sheet(b"")), [])
+        self.assertEqual(
+            compare.kind_sorts(b"[&U]7;[&U]7;", sheet(b"[&U]7;[&U]7;")),
+            ["unrooted", "unrooted of one leaf", "unrooted copies only"])
+        self.assertEqual(
+            compare.kind_sorts(UNROOTED_INPUT, UNROOTED_SHEET),
+            ["unrooted", "unrooted with pairs", "unrooted copies beside others"])
+        for text in texts_with_copies(55, 15, generate.UNROOTED):
+            pairs, _, firsts = graph(text)
+            for output in (sheet(text), island_sheet(text), reference.graphs_sheet(text)):
+                self.assertEqual(compare.has_pairs(output, len(set(firsts))), bool(pairs))
+                self.assertIn("unrooted", compare.kind_sorts(text, output))
 
     def test_mirrored(self):
         """Every fork's children are swapped."""
@@ -1308,9 +1980,11 @@ class Generator(unittest.TestCase):
 
     def test_command(self):
         """The command prints the sheet and nothing else."""
-        for option, expected in (([], SAMPLE_SHEET), (["--islands"], b"island 0 4\n")):
+        for option, text, expected in (
+                ([], SAMPLE_INPUT, SAMPLE_SHEET), (["--islands"], SAMPLE_INPUT, b"island 0 4\n"),
+                ([], UNROOTED_INPUT, UNROOTED_SHEET)):
             done = subprocess.run(
-                [sys.executable, os.path.join(HERE, "reference.py")] + option, input=SAMPLE_INPUT,
+                [sys.executable, os.path.join(HERE, "reference.py")] + option, input=text,
                 stdout=subprocess.PIPE, stderr=subprocess.PIPE, check=True,
             )
             self.assertEqual((done.stdout, done.stderr), (expected, b""))

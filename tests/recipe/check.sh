@@ -53,6 +53,8 @@ file() { cat >"$work/$1"; }
 copies() { awk -v n="$1" 'BEGIN { while (n-- > 0) print "((1,2),3);" }' | file "copies_$1"; }
 
 gives "$here/mrbayes.sheet" "$here/mrbayes.t"
+gives "$here/mrbayes_unrooted.sheet" "$here/mrbayes_unrooted.t"
+gives "$here/utrees.sheet" "$here/utrees.nex"
 gives "$here/beast1.sheet" "$here/beast1.trees"
 gives "$here/beast2.sheet" "$here/beast2.trees"
 gives "$here/upper.sheet" "$here/upper.nex"
@@ -74,11 +76,34 @@ gives "$work/copies.sheet" --burn-in 1 "$work/copies_161"
 refuses '161 trees, and a sheet has 160 at most; --every 2 leaves 81' "$work/copies_161"
 refuses '321 trees, and a sheet has 160 at most; --every 3 leaves 108' "$work/copies_160" "$work/copies_161"
 
-refuses 'tree 1 is unrooted' "$here/mrbayes_unrooted.t"
+# unrooted trees: three at the top, or two leaves, or one; the mark is kept
+printf '[&U] (3:0.1,2:0.2,1);\nutree x = (1,(02),3);\n' | file bracket
+refuses 'tree 2 is not binary' "$work/bracket"
+printf '[&U] (2:0.1,1);\nutree x = (1,2);\n' | file two_leaves
+printf '%s\n' 'trees 2 pairs 0' 'tree 0 neighbours 0 unlinked 0 [&U](1,2);' 'tree 1 neighbours 0 unlinked 0 [&U](1,2);' | file two_leaves.sheet
+gives "$work/two_leaves.sheet" "$work/two_leaves"
+echo '[&U] 7:0.1;' | file one_leaf
+printf '%s\n' 'trees 1 pairs 0' 'tree 0 neighbours 0 unlinked 0 [&U]7;' | file one_leaf.sheet
+gives "$work/one_leaf.sheet" "$work/one_leaf"
 echo '[&u] ((1,2),3);' | file lower
-refuses 'tree 1 is unrooted' "$work/lower"
-echo 'utree x = ((1,2),3);' | file utree
-refuses 'tree 1 is unrooted' "$work/utree"
+refuses 'tree 1 is marked unrooted, but has two children at the top, as a rooted tree has' "$work/lower"
+echo 'utree x = ((1,2),(3,4));' | file utree
+refuses 'tree 1 is marked unrooted, but has two children at the top' "$work/utree"
+echo '[&U] (1,2,3,4);' | file four
+refuses 'tree 1 is not binary' "$work/four"
+echo '[&U] (1,2,(3,4,5));' | file below
+refuses 'tree 1 is not binary' "$work/below"
+printf '(1,2);\n(1,(2,3),4);\n' | file unmarked
+refuses 'tree 2 has three children at the top, as an unrooted tree has, but is not marked [&U]' "$work/unmarked"
+
+# trees of one kind, in one file and in all
+printf '(1,2);\n[&U](1,2);\n' | file kinds
+refuses "kinds: tree 2 is unrooted, and tree 1 of $work/kinds is rooted; all have to be of one kind" "$work/kinds"
+printf '[&U]((1,2),3,4);\n[&U](1,2,(3,4));\n((1,2),(3,4));\n' | file kinds
+refuses "kinds: tree 3 is rooted, and tree 1 of $work/kinds is unrooted" "$work/kinds"
+refuses "mrbayes_unrooted.t: tree 1 is unrooted, and tree 1 of $here/mrbayes.t is rooted" "$here/mrbayes.t" "$here/mrbayes_unrooted.t"
+refuses "mrbayes.t: tree 1 is rooted, and tree 1 of $here/mrbayes_unrooted.t is unrooted" "$here/mrbayes_unrooted.t" "$here/mrbayes.t"
+
 refuses 'tree 1 has "Homo_sapiens"; taxa have to be numbers' "$here/names.trees"
 refuses 'tree 2 has "Homo_sapiens"; taxa have to be numbers, as the translate block gives them' "$here/names_translated.nex"
 sed 's/3 gorilla/4 gorilla/' "$here/beast1.trees" | file untranslated
@@ -89,8 +114,8 @@ gives "$here/newick.sheet" "$work/padded"
 sed 's/1 human/01 human/' "$here/beast1.trees" | file padded_number
 gives "$here/beast1.sheet" "$work/padded_number"
 refuses '01 is human here, and Homo_sapiens before' "$here/mrbayes.t" "$work/padded_number"
-printf '(1,2);\n(1,2,3);\n' | file three
-refuses 'tree 2 is not binary' "$work/three"
+printf '(1,2);\n(1,2,3,4);\n' | file four_rooted
+refuses 'tree 2 is not binary' "$work/four_rooted"
 echo '((1,2)95:0.1,3);' | file support
 refuses 'tree 1 is not binary, or has a label at an inner node' "$work/support"
 echo '(1[&x]2,3);' | file joined

@@ -3,10 +3,12 @@
 //! A clade is a number of 64 bits, a forest one number more: the sum of the
 //! mixed clades of its forks. Forests are looked up by that number alone, and
 //! so are topologies. Two that differ but have the same number would be taken
-//! for one; for 20,160 forests that is less likely than once in ten thousand
-//! million tables. It is the risk that programs of this kind take.
+//! for one; for 20,160 forests, or 29,760 of unrooted trees, that is less likely
+//! than once in ten thousand million tables. It is the risk that programs of this
+//! kind take.
 
 mod forests;
+mod hung;
 mod reader;
 mod sheet;
 mod tree;

@@ -1,6 +1,7 @@
 //! Reads a table from left to right and refuses at the first fault, with its
 //! number in the refusal list and its place.
 
+use crate::hung::hung;
 use crate::tree::{mixed, Node, Tree};
 use crate::{MOST_BYTES, MOST_TREES};
 
@@ -13,6 +14,7 @@ const TOO_DEEP: u8 = 4;
 const OTHER_LABELS: u8 = 5;
 const TOO_MANY_TREES: u8 = 6;
 const TEXT_TOO_LONG: u8 = 8;
+const OTHER_KIND: u8 = 10;
 
 const MOST_OPEN: usize = 63;
 const LARGEST_LABEL: usize = 64;
@@ -35,10 +37,11 @@ pub fn read_table(text: &[u8]) -> Result<Vec<Tree>, Refusal> {
             return Err((TOO_MANY_TREES, reader.place));
         }
         let tree = reader.tree()?;
-        if trees
-            .first()
-            .map_or(false, |first| first.labels() != tree.labels())
-        {
+        let first = trees.first().unwrap_or(&tree);
+        if first.unrooted != tree.unrooted {
+            return Err((OTHER_KIND, reader.place - 1));
+        }
+        if first.labels() != tree.labels() {
             return Err((OTHER_LABELS, reader.place - 1));
         }
         trees.push(tree);
@@ -76,12 +79,53 @@ impl Reader<'_> {
 
     fn tree(&mut self) -> Result<Tree, Refusal> {
         self.labels = 0;
-        self.nodes = Vec::with_capacity(MOST_NODES);
-        self.node(0, 0)?;
+        let unrooted = self.unrooted_mark()?;
+        let nodes = if unrooted {
+            hung(&self.top()?)
+        } else {
+            self.part(0)?
+        };
         self.take(b';')?;
-        Ok(Tree {
-            nodes: std::mem::take(&mut self.nodes),
-        })
+        Ok(Tree { nodes, unrooted })
+    }
+
+    /// Reads `[&U]`, `[&R]` or nothing, and gives whether it was the first.
+    fn unrooted_mark(&mut self) -> Result<bool, Refusal> {
+        if self.next_token() != Some(b'[') {
+            return Ok(false);
+        }
+        let start = self.place;
+        for possible in [&b"["[..], b"&", b"UR", b"]"] {
+            match self.text.get(self.place) {
+                Some(byte) if possible.contains(byte) => self.place += 1,
+                _ => return Err((BAD_BYTE, self.place)),
+            }
+        }
+        Ok(self.text[start + 2] == b'U')
+    }
+
+    /// Reads the nodes at the top of an unrooted tree.
+    fn top(&mut self) -> Result<Vec<Vec<Node>>, Refusal> {
+        if self.next_token() != Some(b'(') {
+            return Ok(vec![self.part(0)?]);
+        }
+        self.place += 1;
+        let mut nodes = vec![self.part(1)?];
+        self.take(b',')?;
+        nodes.push(self.part(1)?);
+        if self.labels.count_ones() > 2 || self.next_token() != Some(b')') {
+            self.take(b',')?;
+            nodes.push(self.part(1)?);
+        }
+        self.take(b')')?;
+        Ok(nodes)
+    }
+
+    /// Reads a node into nodes of its own.
+    fn part(&mut self, open: usize) -> Result<Vec<Node>, Refusal> {
+        self.nodes = Vec::with_capacity(MOST_NODES);
+        self.node(0, open)?;
+        Ok(std::mem::take(&mut self.nodes))
     }
 
     /// Reads a node below `parent` while `open` brackets are open.

@@ -45,7 +45,7 @@ pub fn sheet(trees: &[Tree]) -> Vec<u8> {
             trees.len() - counts[i] - copies[topology[i]],
         );
         out.push(b' ');
-        tree.write(0, &mut out);
+        tree.write(&mut out);
         out.extend_from_slice(b";\n");
     }
     for (i, j) in pairs {

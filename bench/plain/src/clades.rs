@@ -5,12 +5,12 @@
 use std::cmp::Reverse;
 use std::collections::HashMap;
 
-use crate::tree::Tree;
+use crate::rooted::Rooted;
 use crate::{Support, LARGEST_LABEL};
 
-pub fn support_of(trees: &[Tree]) -> Support {
+pub fn support_of(trees: &[&Rooted]) -> Support {
     let mut numbers: HashMap<u64, u16> = HashMap::new();
-    for clade in trees.iter().flat_map(Tree::clades) {
+    for clade in trees.iter().flat_map(|tree| tree.clades()) {
         *numbers.entry(clade).or_default() += 1;
     }
     let mut clades: Vec<(u64, u16)> = numbers.into_iter().collect();

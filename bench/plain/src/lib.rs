@@ -1,9 +1,11 @@
-//! Which rooted binary trees are one prune and regraft apart: a plain
-//! implementation of document 01's calls over ordinary Rust types.
+//! Which binary trees, rooted or unrooted, are one prune and regraft apart: a
+//! plain implementation of document 01's calls over ordinary Rust types.
 //!
 //! The method is document 001's: every forest of every tree is written as a
 //! canonical string, the strings are the keys of a hash map, and two trees of
-//! different topology that meet under one key are a pair. For interchanges the
+//! different topology that meet under one key are a pair. A rooted tree has a
+//! forest for each node but the root (Lemma 2.2 there), an unrooted one two for
+//! each edge, as either side may be the moved one (Lemma 2.3). For interchanges the
 //! canonical texts of all trees one interchange away are looked up among those
 //! of the table. Islands are found by uniting sets along the listed pairs. For
 //! clade support the label sets of all forks are counted in a hash map.
@@ -16,7 +18,9 @@
 
 mod clades;
 mod reader;
+mod rooted;
 mod tree;
+mod unrooted;
 
 #[cfg(test)]
 mod tests;
@@ -25,6 +29,7 @@ use std::collections::{BTreeMap, HashMap, HashSet};
 use std::io::Write;
 
 use reader::Reader;
+use rooted::Rooted;
 use tree::Tree;
 
 /// A text has at most this many bytes.
@@ -52,6 +57,9 @@ pub const TOO_MANY_TREES: u8 = 6;
 pub const TEXT_TOO_LONG: u8 = 8;
 /// The tree has no cut of this number.
 pub const NO_SUCH_CUT: u8 = 9;
+/// The tree is not of the first tree's kind, or is unrooted where only rooted
+/// ones are taken.
+pub const OTHER_KIND: u8 = 10;
 
 /// Why a call refuses: the number, which text (0, or 1 for the pair call's
 /// second) and the place.
@@ -96,33 +104,33 @@ pub struct Support {
 /// The canonical text of a text with exactly one tree.
 pub fn form(text: &[u8]) -> Result<Vec<u8>, Refusal> {
     refuse_long_text(text, 0)?;
-    let (tree, _) = read_one(text, 0)?;
+    let (tree, _) = read_one(text, 0, Takes::Either)?;
     Ok(tree.canonical_text().to_vec())
 }
 
-/// The forest text of cut `c`.
+/// The forest text of cut `c` of a rooted tree.
 pub fn cut(text: &[u8], c: u64) -> Result<Vec<u8>, Refusal> {
     refuse_long_text(text, 0)?;
-    let (tree, _) = read_one(text, 0)?;
-    if c >= tree.number_of_cuts() as u64 {
-        return Err(Refusal {
+    let (tree, _) = read_one(text, 0, Takes::RootedOnly)?;
+    tree.rooted()
+        .filter(|tree| c < tree.number_of_cuts() as u64)
+        .map(|tree| tree.forest_text(c as usize))
+        .ok_or(Refusal {
             number: NO_SUCH_CUT,
             text: 0,
             place: 0,
-        });
-    }
-    Ok(tree.forest_text(c as usize))
+        })
 }
 
-/// Whether two trees are one move apart; equal topologies are not.
+/// Whether two trees of one kind are one move apart; equal topologies are not.
 pub fn pair(text0: &[u8], text1: &[u8]) -> Result<bool, Refusal> {
     refuse_long_text(text0, 0)?;
     refuse_long_text(text1, 1)?;
-    let (first, _) = read_one(text0, 0)?;
-    let (second, semicolon) = read_one(text1, 1)?;
-    if first.labels() != second.labels() {
+    let (first, _) = read_one(text0, 0, Takes::Either)?;
+    let (second, semicolon) = read_one(text1, 1, Takes::Either)?;
+    if let Some(number) = unlike(&first, &second) {
         return Err(Refusal {
-            number: OTHER_LABELS,
+            number,
             text: 1,
             place: semicolon,
         });
@@ -141,7 +149,7 @@ pub fn pair(text0: &[u8], text1: &[u8]) -> Result<bool, Refusal> {
 pub fn table(text: &[u8]) -> Result<(Vec<u8>, Vec<u32>), Refusal> {
     let mut written = Vec::new();
     let mut ends = Vec::new();
-    for tree in read_table(text)? {
+    for tree in read_table(text, Takes::Either)? {
         written.extend_from_slice(tree.canonical_text());
         ends.push(written.len() as u32);
     }
@@ -151,17 +159,20 @@ pub fn table(text: &[u8]) -> Result<(Vec<u8>, Vec<u32>), Refusal> {
 /// The graph of a table with copies merged: only the first position of each
 /// topology stands in pairs, and a later copy has count 0.
 pub fn graph(text: &[u8]) -> Result<Graph, Refusal> {
-    Ok(graph_of(&read_table(text)?, Copies::Merged))
+    Ok(graph_of(&read_table(text, Takes::Either)?, Copies::Merged))
 }
 
 /// The graph of a table with copies kept apart: every position stands in pairs.
 pub fn graph_with_copies(text: &[u8]) -> Result<Graph, Refusal> {
-    Ok(graph_of(&read_table(text)?, Copies::KeptApart))
+    Ok(graph_of(
+        &read_table(text, Takes::Either)?,
+        Copies::KeptApart,
+    ))
 }
 
-/// The pairs one interchange apart, with copies kept apart.
+/// The pairs of rooted trees one interchange apart, with copies kept apart.
 pub fn interchanges(text: &[u8]) -> Result<Listing, Refusal> {
-    let trees = read_table(text)?;
+    let trees = read_table(text, Takes::RootedOnly)?;
     Ok(Topologies::of(&trees).listing(Copies::KeptApart, one_interchange_apart))
 }
 
@@ -176,11 +187,13 @@ pub fn islands(text: &[u8]) -> Result<Islands, Refusal> {
     Ok(Islands { graph, numbers })
 }
 
-/// How many trees of a table have each clade, copies counted, and the majority
-/// tree: the clades of more than half of the trees, the one-label clades and
-/// the whole label set.
+/// How many rooted trees of a table have each clade, copies counted, and the
+/// majority tree: the clades of more than half of the trees, the one-label
+/// clades and the whole label set.
 pub fn support(text: &[u8]) -> Result<Support, Refusal> {
-    Ok(clades::support_of(&read_table(text)?))
+    let trees = read_table(text, Takes::RootedOnly)?;
+    let rooted: Vec<&Rooted> = trees.iter().filter_map(Tree::rooted).collect();
+    Ok(clades::support_of(&rooted))
 }
 
 /// The support of a table as text: the numbers of trees and clades, a line for
@@ -260,7 +273,7 @@ pub fn sheet(text: &[u8]) -> Vec<u8> {
 }
 
 fn write_sheet(text: &[u8], out: &mut Vec<u8>) -> std::io::Result<()> {
-    let trees = match read_table(text) {
+    let trees = match read_table(text, Takes::Either) {
         Ok(trees) => trees,
         Err(refusal) => return write_refusal(refusal, out),
     };
@@ -303,17 +316,33 @@ fn refuse_long_text(text: &[u8], which: u8) -> Result<(), Refusal> {
     Ok(())
 }
 
-/// Reads a text of exactly one tree. Gives it and the place of its `;`.
-fn read_one(text: &[u8], which: u8) -> Result<(Tree, usize), Refusal> {
-    let mut reader = Reader::new(text, which);
+/// Which kinds of trees a call takes.
+#[derive(Clone, Copy, PartialEq, Eq)]
+enum Takes {
+    Either,
+    RootedOnly,
+}
+
+/// Reads one tree, of a kind that is taken. Gives it and the place of its `;`.
+fn read_taken(reader: &mut Reader, takes: Takes) -> Result<(Tree, usize), Refusal> {
     let (tree, semicolon) = reader.tree()?;
+    if takes == Takes::RootedOnly && tree.rooted().is_none() {
+        return Err(reader.refusal_at(OTHER_KIND, semicolon));
+    }
+    Ok((tree, semicolon))
+}
+
+/// Reads a text of exactly one tree. Gives it and the place of its `;`.
+fn read_one(text: &[u8], which: u8, takes: Takes) -> Result<(Tree, usize), Refusal> {
+    let mut reader = Reader::new(text, which);
+    let (tree, semicolon) = read_taken(&mut reader, takes)?;
     match reader.next_token_byte() {
         Some(_) => Err(reader.refusal(BAD_BYTE)),
         None => Ok((tree, semicolon)),
     }
 }
 
-fn read_table(text: &[u8]) -> Result<Vec<Tree>, Refusal> {
+fn read_table(text: &[u8], takes: Takes) -> Result<Vec<Tree>, Refusal> {
     refuse_long_text(text, 0)?;
     let mut reader = Reader::new(text, 0);
     let mut trees: Vec<Tree> = Vec::new();
@@ -321,20 +350,24 @@ fn read_table(text: &[u8]) -> Result<Vec<Tree>, Refusal> {
         if trees.len() == MOST_TREES {
             return Err(reader.refusal(TOO_MANY_TREES));
         }
-        let (tree, semicolon) = reader.tree()?;
-        if trees
-            .first()
-            .map_or(false, |first| first.labels() != tree.labels())
-        {
-            return Err(Refusal {
-                number: OTHER_LABELS,
-                text: 0,
-                place: semicolon,
-            });
+        let (tree, semicolon) = read_taken(&mut reader, takes)?;
+        if let Some(number) = trees.first().and_then(|first| unlike(first, &tree)) {
+            return Err(reader.refusal_at(number, semicolon));
         }
         trees.push(tree);
     }
     Ok(trees)
+}
+
+/// Why a tree cannot stand beside the first one, if it cannot.
+fn unlike(first: &Tree, tree: &Tree) -> Option<u8> {
+    if first.rooted().is_some() != tree.rooted().is_some() {
+        Some(OTHER_KIND)
+    } else if first.labels() != tree.labels() {
+        Some(OTHER_LABELS)
+    } else {
+        None
+    }
 }
 
 /// Which positions stand in pairs: the first of each topology, or all.
@@ -425,7 +458,7 @@ fn graph_of(trees: &[Tree], copies: Copies) -> Graph {
 /// Trees that share several forests meet several times; in the matrix that is
 /// still one entry.
 fn sharing_a_forest(trees: &[&Tree]) -> Adjacency {
-    let forests = trees.iter().map(|tree| tree.number_of_cuts()).sum();
+    let forests = trees.iter().map(|tree| tree.number_of_forests()).sum();
     let mut holders: HashMap<Vec<u8>, Vec<usize>> = HashMap::with_capacity(forests);
     let mut adjacent = vec![vec![false; trees.len()]; trees.len()];
     for (i, tree) in trees.iter().enumerate() {
@@ -450,7 +483,7 @@ fn one_interchange_apart(trees: &[&Tree]) -> Adjacency {
         .collect();
     let mut adjacent = vec![vec![false; trees.len()]; trees.len()];
     for (tree, neighbours) in trees.iter().zip(&mut adjacent) {
-        for text in tree.interchanged_texts() {
+        for text in tree.rooted().iter().flat_map(|x| x.interchanged_texts()) {
             if let Some(&number) = number_of.get(text.as_slice()) {
                 neighbours[number] = true;
             }

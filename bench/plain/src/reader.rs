@@ -1,6 +1,8 @@
 //! Reads tree texts from left to right and refuses at the first fault.
 
+use crate::rooted::Rooted;
 use crate::tree::{Subtree, Tree};
+use crate::unrooted::Unrooted;
 use crate::{Refusal, BAD_BYTE, BAD_LABEL, LARGEST_LABEL, MOST_OPEN, REPEATED_LABEL, TOO_DEEP};
 
 pub struct Reader<'a> {
@@ -27,7 +29,7 @@ impl<'a> Reader<'a> {
         self.refusal_at(number, self.place)
     }
 
-    fn refusal_at(&self, number: u8, place: usize) -> Refusal {
+    pub fn refusal_at(&self, number: u8, place: usize) -> Refusal {
         Refusal {
             number,
             text: self.which,
@@ -56,12 +58,60 @@ impl<'a> Reader<'a> {
         Ok(())
     }
 
-    /// Reads a node and `;`. Gives the tree and the place of the `;`.
+    /// Goes past one of these bytes, with no blank before it, and gives it.
+    fn take_one_of(&mut self, possible: &[u8]) -> Result<u8, Refusal> {
+        match self.byte_here() {
+            Some(byte) if possible.contains(&byte) => {
+                self.place += 1;
+                Ok(byte)
+            }
+            _ => Err(self.refusal(BAD_BYTE)),
+        }
+    }
+
+    /// Reads a mark or none, a top and `;`. Gives the tree and the place of the
+    /// `;`.
     pub fn tree(&mut self) -> Result<(Tree, usize), Refusal> {
         self.labels = 0;
-        let root = self.node(0)?;
+        let tree = if self.unrooted_mark()? {
+            let top = self.unrooted_top()?;
+            Tree::Unrooted(Unrooted::new(&top, self.labels))
+        } else {
+            let root = self.node(0)?;
+            Tree::Rooted(Rooted::new(&root, self.labels))
+        };
         self.take(b';')?;
-        Ok((Tree::new(&root, self.labels), self.place - 1))
+        Ok((tree, self.place - 1))
+    }
+
+    /// Reads `[&U]`, `[&R]` or nothing, and gives whether it was the first.
+    fn unrooted_mark(&mut self) -> Result<bool, Refusal> {
+        if self.next_token_byte() != Some(b'[') {
+            return Ok(false);
+        }
+        self.place += 1;
+        self.take_one_of(b"&")?;
+        let letter = self.take_one_of(b"UR")?;
+        self.take_one_of(b"]")?;
+        Ok(letter == b'U')
+    }
+
+    /// Reads the top of an unrooted tree: a label, two of them in brackets, or
+    /// three nodes in brackets.
+    fn unrooted_top(&mut self) -> Result<Vec<Subtree>, Refusal> {
+        if self.next_token_byte() != Some(b'(') {
+            return Ok(vec![self.node(0)?]);
+        }
+        self.take(b'(')?;
+        let mut nodes = vec![self.node(1)?];
+        self.take(b',')?;
+        nodes.push(self.node(1)?);
+        if self.labels.count_ones() > 2 || self.next_token_byte() != Some(b')') {
+            self.take(b',')?;
+            nodes.push(self.node(1)?);
+        }
+        self.take(b')')?;
+        Ok(nodes)
     }
 
     /// Reads a label or a fork while `open` brackets are open.

@@ -1,4 +1,5 @@
-//! The samples of document 01, copies, interchanges, islands and clade support.
+//! The samples of document 01, copies, interchanges, islands, clade support and
+//! unrooted trees.
 
 use super::*;
 
@@ -316,7 +317,8 @@ fn merged_and_kept_apart() {
 
 /// The canonical texts one interchange away from a tree.
 fn interchanged(tree: &str) -> Vec<String> {
-    let (tree, _) = read_one(tree.as_bytes(), 0).unwrap();
+    let (tree, _) = read_one(tree.as_bytes(), 0, Takes::RootedOnly).unwrap();
+    let tree = tree.rooted().unwrap();
     tree.interchanged_texts()
         .map(|text| String::from_utf8(text).unwrap())
         .collect()
@@ -618,4 +620,175 @@ fn support_sheets() {
     assert_eq!(support_sheet(b" \t\r\n"), b"trees 0 clades 0\n");
     assert_eq!(support_sheet(b"(1,2,3);"), b"refused 1 at 4\n");
     assert_eq!(support_sheet(&vec![b'x'; 65_536]), b"refused 8 at 0\n");
+}
+
+#[test]
+fn unrooted_forms() {
+    assert_eq!(form(b"[&U](3,(2,1),4);"), text("[&U](1,2,(3,4));"));
+    assert_eq!(form(b"[&U]((3,10),2,9);"), text("[&U](2,(3,10),9);"));
+    assert_eq!(form(b" [&U]\t( 3 , 2 , 1 ) ;\n"), text("[&U](1,2,3);"));
+    assert_eq!(form(b"[&U](10,02);"), text("[&U](2,10);"));
+    assert_eq!(form(b"[&U] 7 ;"), text("[&U]7;"));
+    assert_eq!(form(b"[&R](3,(2,1));"), text("((1,2),3);"));
+    // The top is next to the smallest label, wherever it was.
+    for tree in ["((1,2),3,(4,5))", "(1,2,(3,(5,4)))", "((3,(2,1)),4,5)"] {
+        let written = form(format!("[&U]{tree};").as_bytes());
+        assert_eq!(written, text("[&U](1,2,(3,(4,5)));"), "{tree}");
+    }
+}
+
+#[test]
+fn broken_marks() {
+    for (broken, place) in [
+        ("[", 1),
+        ("[1,2];", 1),
+        ("[&]1;", 2),
+        ("[&u]1;", 2),
+        ("[ &U]1;", 1),
+        ("[&U 1;", 3),
+        ("[&U][&U]1;", 4),
+        ("[&R] [&U]1;", 5),
+        ("([&U]1,2);", 1),
+        ("(1,2)[&U];", 5),
+        ("[&U]", 4),
+    ] {
+        assert_eq!(form(broken.as_bytes()), refused(1, place), "{broken}");
+    }
+}
+
+#[test]
+fn numbers_of_children() {
+    for (wrong, place) in [
+        ("[&U](1);", 6),
+        ("[&U](1,2,3,4);", 10),
+        ("[&U]((1,2),3);", 12),
+        ("[&U](1,(2,3));", 12),
+        ("[&U]((1,2,3),4,5);", 9),
+        ("[&U](1,2,(3));", 11),
+        ("[&R](1,2,3);", 8),
+        ("((1,2),3,4);", 8),
+    ] {
+        assert_eq!(form(wrong.as_bytes()), refused(1, place), "{wrong}");
+    }
+}
+
+#[test]
+fn trees_of_two_kinds() {
+    assert_eq!(table(b"(1,2);[&U](1,2);"), refused(10, 15));
+    assert_eq!(table(b"[&U]1;[&R]1;"), refused(10, 11));
+    // Before the labels, and before what is behind it.
+    assert_eq!(table(b"[&U]1;2;x"), refused(10, 7));
+    assert_eq!(table(b"1;2;[&U]1;"), refused(5, 3));
+    assert_eq!(table(b"1;[&U]1"), refused(1, 7));
+    let full = "1;".repeat(160);
+    assert_eq!(table(format!("{full}[&U]1;").as_bytes()), refused(6, 320));
+    let second = |number, place| {
+        Err(Refusal {
+            number,
+            text: 1,
+            place,
+        })
+    };
+    assert_eq!(pair(b"1;", b"[&U]1;"), second(10, 5));
+    assert_eq!(pair(b"[&U]1;", b" 2 ; "), second(10, 3));
+    assert_eq!(pair(b"[&U]1;", b"2;x"), second(1, 2));
+}
+
+#[test]
+fn calls_for_rooted_trees_only() {
+    assert_eq!(cut(b"[&U](1,2,3);", 99), refused(10, 11));
+    assert_eq!(cut(b"[&U]1;x", 0), refused(10, 5));
+    assert_eq!(cut(b"[&U]((1,2),3);", 0), refused(1, 12));
+    assert_eq!(cut(b"[&R](1,2);", 0), text("2 1;"));
+    assert_eq!(interchanges(b"[&U]1;[&U]2;"), refused(10, 5));
+    assert_eq!(interchanges(b"1;[&U]2;"), refused(10, 7));
+    assert_eq!(support(b"[&U]1;x"), refused(10, 5));
+    assert_eq!(interchange_sheet(b"[&U](1,2,3);"), b"refused 10 at 11\n");
+    assert_eq!(support_sheet(b"1;[&U]1;"), b"refused 10 at 7\n");
+}
+
+#[test]
+fn unrooted_pairs() {
+    let pair = |one: &str, other: &str| pair(one.as_bytes(), other.as_bytes());
+    assert_eq!(pair("[&U]7;", "[&U]7;"), Ok(false));
+    assert_eq!(pair("[&U](1,2);", "[&U](2,1);"), Ok(false));
+    assert_eq!(pair("[&U](1,2,3);", "[&U](3,1,2);"), Ok(false));
+    assert_eq!(pair("[&U](1,2,(3,4));", "[&U](1,(2,3),4);"), Ok(true));
+    let one = "[&U](1,2,(3,(4,5)));";
+    assert_eq!(pair(one, "[&U](1,4,(3,(2,5)));"), Ok(false));
+    assert_eq!(pair(one, "[&U](1,(2,3),(4,5));"), Ok(true));
+    // Only the side with the smallest label can be the moved one.
+    let (one, other) = ("[&U](1,2,(3,(4,(5,6))));", "[&U](1,2,(((3,4),5),6));");
+    assert_eq!(pair(one, other), Ok(true));
+    assert_eq!(pair(other, one), Ok(true));
+    // The cut is at the same place, but the side that moves has other ends.
+    let (one, other) = ("[&U]((1,2),3,((4,5),6));", "[&U]((1,3),2,((4,6),5));");
+    assert_eq!(pair(one, other), Ok(false));
+}
+
+/// An unrooted tree, three nodes in brackets and labels up to 9, with one leaf
+/// more on each of its edges.
+fn with_a_leaf(tree: &str, label: usize) -> Vec<String> {
+    let begins = |start: &usize| !b",)".contains(&tree.as_bytes()[*start]);
+    let grown = |start: usize| {
+        let mut open = 0;
+        let closes = |byte| {
+            open += i32::from(byte == b'(') - i32::from(byte == b')');
+            open == 0
+        };
+        let end = start + 1 + tree[start..].bytes().position(closes).unwrap();
+        let (before, node, behind) = (&tree[..start], &tree[start..end], &tree[end..]);
+        format!("{before}({node},{label}){behind}")
+    };
+    (1..tree.len()).filter(begins).map(grown).collect()
+}
+
+/// Every unrooted topology of n leaves has 2(n - 3)(2n - 7) neighbours.
+#[test]
+fn neighbours_of_every_unrooted_topology() {
+    let mut trees = vec![String::from("(1,2,3)")];
+    for leaves in 4..=6 {
+        trees = trees
+            .iter()
+            .flat_map(|tree| with_a_leaf(tree, leaves))
+            .collect();
+        assert_eq!(trees.len(), [3, 15, 105][leaves - 4]);
+        let table: String = trees.iter().map(|x| format!("[&U]{x};")).collect();
+        let graph = graph(table.as_bytes()).unwrap();
+        let neighbours = 2 * (leaves - 3) * (2 * leaves - 7);
+        assert_eq!(graph.counts, vec![neighbours as u16; trees.len()]);
+        assert_eq!(graph_with_copies(table.as_bytes()), Ok(graph));
+    }
+}
+
+#[test]
+fn longest_unrooted_texts() {
+    let mut comb = String::from("(63,64)");
+    for label in (3..63).rev() {
+        comb = format!("({label},{comb})");
+    }
+    let longest = format!("[&U](1,2,{comb});");
+    assert_eq!(longest.len(), 311);
+    assert_eq!(form(longest.as_bytes()), text(&longest));
+    let full = longest.repeat(160);
+    assert_eq!(table(full.as_bytes()).unwrap().0.len(), 160 * 311);
+    assert_eq!(table(format!("{full}[").as_bytes()), refused(6, 160 * 311));
+}
+
+#[test]
+fn unrooted_sheets() {
+    let trees = b"[&U](2,(3,(4,5)),1);[&U](((2,5),3),4,1);[&U]((4,5),(3,2),1);[&U]((3,(5,4)),2,1);";
+    let expected = "\
+trees 4 pairs 3
+tree 0 neighbours 1 unlinked 1 [&U](1,2,(3,(4,5)));
+tree 1 neighbours 1 unlinked 2 [&U](1,((2,5),3),4);
+tree 2 neighbours 3 unlinked 0 [&U](1,(2,3),(4,5));
+tree 3 neighbours 1 unlinked 1 [&U](1,2,(3,(4,5)));
+pair 0 2
+pair 1 2
+pair 2 3
+";
+    assert_eq!(String::from_utf8(sheet(trees)).unwrap(), expected);
+    assert_eq!(island_sheet(trees), b"island 0 4\n");
+    assert_eq!(sheet(b"(1,2);[&U](1,2);"), b"refused 10 at 15\n");
 }

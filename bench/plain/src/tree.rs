@@ -1,15 +1,60 @@
-//! Trees, their canonical texts, their clades, their forests and their
-//! interchanges.
+//! Trees of either kind, and what both are written with.
 
-use std::ops::Range;
-
+use crate::rooted::Rooted;
+use crate::unrooted::Unrooted;
 use crate::MOST_OPEN;
+
+pub enum Tree {
+    Rooted(Rooted),
+    Unrooted(Unrooted),
+}
+
+impl Tree {
+    /// The tree if it is a rooted one.
+    pub fn rooted(&self) -> Option<&Rooted> {
+        match self {
+            Tree::Rooted(tree) => Some(tree),
+            Tree::Unrooted(_) => None,
+        }
+    }
+
+    /// The label set, bit `label - 1` for each.
+    pub fn labels(&self) -> u64 {
+        match self {
+            Tree::Rooted(tree) => tree.labels(),
+            Tree::Unrooted(tree) => tree.labels(),
+        }
+    }
+
+    /// The canonical text, `;` included, with the mark of an unrooted tree.
+    pub fn canonical_text(&self) -> &[u8] {
+        match self {
+            Tree::Rooted(tree) => tree.canonical_text(),
+            Tree::Unrooted(tree) => tree.canonical_text(),
+        }
+    }
+
+    pub fn number_of_forests(&self) -> usize {
+        match self {
+            Tree::Rooted(tree) => tree.number_of_cuts(),
+            Tree::Unrooted(tree) => tree.cuts().count(),
+        }
+    }
+
+    /// The forest texts of all cuts.
+    pub fn forest_texts(&self) -> Box<dyn Iterator<Item = Vec<u8>> + '_> {
+        match self {
+            Tree::Rooted(tree) => Box::new(tree.forest_texts()),
+            Tree::Unrooted(tree) => Box::new(tree.forest_texts()),
+        }
+    }
+}
 
 /// A node as it is read, with its children already in canonical order.
 pub struct Subtree {
     /// Smallest label at and below the node; of a leaf, its label.
-    least: u8,
-    children: Option<Box<[Subtree; 2]>>,
+    pub least: u8,
+    pub children: Option<Box<[Subtree; 2]>>,
 }
 
 impl Subtree {
@@ -33,179 +78,62 @@ impl Subtree {
     }
 }
 
-/// A rooted binary tree with its canonical text.
-pub struct Tree {
-    text: Vec<u8>,
-    /// In the order in which the nodes begin in the text. The root is node 0,
-    /// so cut `c` is at node `c + 1`.
-    nodes: Vec<Node>,
-    labels: u64,
-}
+/// A part of a tree: its smallest label and its canonical text.
+pub type Part<'a> = (u8, &'a [u8]);
 
-struct Node {
-    least: u8,
-    /// Where the node stands in the canonical text.
-    text: Range<usize>,
-    /// Parent and sibling; the root has none.
-    above: Option<(usize, usize)>,
-}
-
-impl Tree {
-    /// The tree with this root and this label set, bit `label - 1` for each
-    /// label.
-    pub fn new(root: &Subtree, labels: u64) -> Tree {
-        let mut tree = Tree {
-            text: Vec::new(),
-            nodes: Vec::new(),
-            labels,
-        };
-        tree.add(root);
-        tree.text.push(b';');
-        tree
-    }
-
-    /// Writes a subtree at the end of the text and gives its root's index.
-    fn add(&mut self, subtree: &Subtree) -> usize {
-        let index = self.nodes.len();
-        let start = self.text.len();
-        self.nodes.push(Node {
-            least: subtree.least,
-            text: start..start,
-            above: None,
-        });
-        match &subtree.children {
-            None => self.add_label(subtree.least),
-            Some(children) => {
-                self.text.push(b'(');
-                let first = self.add(&children[0]);
-                self.text.push(b',');
-                let second = self.add(&children[1]);
-                self.text.push(b')');
-                self.nodes[first].above = Some((index, second));
-                self.nodes[second].above = Some((index, first));
-            }
-        }
-        self.nodes[index].text.end = self.text.len();
-        index
-    }
-
-    fn add_label(&mut self, label: u8) {
-        if label >= 10 {
-            self.text.push(b'0' + label / 10);
-        }
-        self.text.push(b'0' + label % 10);
-    }
-
-    pub fn labels(&self) -> u64 {
-        self.labels
-    }
-
-    /// The canonical text, `;` included.
-    pub fn canonical_text(&self) -> &[u8] {
-        &self.text
-    }
-
-    /// The label sets of all forks, bit `label - 1` for each label.
-    pub fn clades(&self) -> Vec<u64> {
-        let mut sets = vec![0; self.nodes.len()];
-        // A node stands before those below it, so a set is complete when it is
-        // reached from behind; a leaf's is still empty then.
-        for (index, node) in self.nodes.iter().enumerate().rev() {
-            if sets[index] == 0 {
-                sets[index] = 1 << (node.least - 1);
-            }
-            if let Some((parent, _)) = node.above {
-                sets[parent] |= sets[index];
-            }
-        }
-        sets.retain(|set: &u64| set.count_ones() > 1);
-        sets
-    }
-
-    pub fn number_of_cuts(&self) -> usize {
-        self.nodes.len() - 1
-    }
-
-    /// The forest texts of all cuts in order.
-    pub fn forest_texts(&self) -> impl Iterator<Item = Vec<u8>> + '_ {
-        (0..self.number_of_cuts()).map(|cut| self.forest_text(cut))
-    }
-
-    /// The forest text of a cut, which must be below the number of cuts.
-    ///
-    /// What the cut leaves is the sibling of the pruned node, joined with the
-    /// sibling of the node above, and so on up to the root. Each sibling is a
-    /// whole subtree and keeps its canonical text. The order in the new forks
-    /// can differ from the old one, because the pruned labels no longer count.
-    pub fn forest_text(&self, cut: usize) -> Vec<u8> {
-        let pruned = cut + 1;
-        let (mut node, nearest) = self.nodes[pruned].above.expect("a cut is not at the root");
-        let mut least = self.nodes[nearest].least;
-        // The further siblings, and whether each comes first in its fork.
-        let mut siblings = Vec::with_capacity(MOST_OPEN);
-        while let Some((parent, sibling)) = self.nodes[node].above {
-            siblings.push((sibling, self.nodes[sibling].least < least));
-            least = least.min(self.nodes[sibling].least);
-            node = parent;
-        }
-
-        // A forest text has a fork less than the tree's text, and a space.
-        let mut out = Vec::with_capacity(self.text.len());
-        for &(sibling, comes_first) in siblings.iter().rev() {
-            out.push(b'(');
-            if comes_first {
-                out.extend_from_slice(self.node_text(sibling));
-                out.push(b',');
-            }
-        }
-        out.extend_from_slice(self.node_text(nearest));
-        for &(sibling, comes_first) in &siblings {
-            if !comes_first {
-                out.push(b',');
-                out.extend_from_slice(self.node_text(sibling));
-            }
-            out.push(b')');
-        }
-        out.push(b' ');
-        out.extend_from_slice(self.node_text(pruned));
-        out.push(b';');
-        out
-    }
-
-    /// The canonical texts of all trees that one interchange makes.
-    pub fn interchanged_texts(&self) -> impl Iterator<Item = Vec<u8>> + '_ {
-        (0..self.nodes.len()).filter_map(|node| self.interchanged_text(node))
-    }
-
-    /// The canonical text after a node is regrafted above its aunt. The root
-    /// and its children have none.
-    ///
-    /// The sibling moves up to the place of the parent, next to a new fork of
-    /// the aunt and the node. The grandparent keeps its labels, so that the
-    /// text around it stays.
-    fn interchanged_text(&self, node: usize) -> Option<Vec<u8>> {
-        let (parent, sibling) = self.nodes[node].above?;
-        let (grandparent, aunt) = self.nodes[parent].above?;
-        let new_fork = fork_text(self.least_and_text(aunt), self.least_and_text(node));
-        let new_least = self.nodes[aunt].least.min(self.nodes[node].least);
-        let changed = fork_text(self.least_and_text(sibling), (new_least, &new_fork));
-        let place = &self.nodes[grandparent].text;
-        Some([&self.text[..place.start], &changed, &self.text[place.end..]].concat())
-    }
-
-    fn least_and_text(&self, node: usize) -> (u8, &[u8]) {
-        (self.nodes[node].least, self.node_text(node))
-    }
-
-    fn node_text(&self, node: usize) -> &[u8] {
-        &self.text[self.nodes[node].text.clone()]
-    }
-}
-
-/// The canonical text of a fork of two nodes, from the smallest label and the
-/// canonical text of each.
-fn fork_text(one: (u8, &[u8]), other: (u8, &[u8])) -> Vec<u8> {
+/// The canonical text of a fork of two parts.
+pub fn fork_text(one: Part, other: Part) -> Vec<u8> {
     // Smallest labels differ, so the texts are not compared.
     let (first, second) = (one.min(other).1, one.max(other).1);
     [&b"("[..], first, b",", second, b")"].concat()
+}
+
+/// Parts joined one after another: a fork of the first two, a fork of that and
+/// the third, and so on.
+pub struct Joined<'a> {
+    least: u8,
+    nearest: &'a [u8],
+    /// The further parts, and whether each comes first in its fork.
+    further: Vec<(&'a [u8], bool)>,
+}
+
+impl<'a> Joined<'a> {
+    pub fn of(nearest: Part<'a>) -> Joined<'a> {
+        Joined {
+            least: nearest.0,
+            nearest: nearest.1,
+            further: Vec::with_capacity(MOST_OPEN),
+        }
+    }
+
+    pub fn with(&mut self, part: Part<'a>) {
+        self.further.push((part.1, part.0 < self.least));
+        self.least = self.least.min(part.0);
+    }
+
+    /// Adds the canonical text.
+    pub fn write(&self, out: &mut Vec<u8>) {
+        for &(text, comes_first) in self.further.iter().rev() {
+            out.push(b'(');
+            if comes_first {
+                out.extend_from_slice(text);
+                out.push(b',');
+            }
+        }
+        out.extend_from_slice(self.nearest);
+        for &(text, comes_first) in &self.further {
+            if !comes_first {
+                out.push(b',');
+                out.extend_from_slice(text);
+            }
+            out.push(b')');
+        }
+    }
+}
+
+pub fn add_label(label: u8, out: &mut Vec<u8>) {
+    if label >= 10 {
+        out.push(b'0' + label / 10);
+    }
+    out.push(b'0' + label % 10);
 }

@@ -1,8 +1,13 @@
-//! Rooted binary trees as texts, and which of them are one prune and regraft apart: safe calls of the proved library.
+//! Binary trees, rooted or unrooted, as texts, and which of them are one prune and regraft apart: safe calls of the
+//! proved library.
 //!
 //! Any bytes may be given as a text: what is not as it should be is refused, with the reason and the place. Each call
-//! that gives a text or numbers comes in two kinds: one returns them, and one writes them into the caller's slices,
+//! that gives a text or numbers comes in two forms: one returns them, and one writes them into the caller's slices,
 //! allocates nothing and says how much it wrote.
+//!
+//! A tree with the mark `[&U]` before it is unrooted, and has three children at the top, or two leaves, or one; a tree
+//! with the mark `[&R]` or none is rooted. Every other fork has two children. The trees of a call are of one kind.
+//! [`cut`], [`interchanges`] and [`support`] take rooted trees only, the other calls either kind.
 //!
 //! Trees of one topology are copies of each other, however they are written; two copies are never a pair. The first
 //! position of a topology is the smallest position whose tree has it. [`graph`] and [`islands`] merge copies: only
@@ -13,6 +18,8 @@
 //! assert_eq!(norbelath::form(b"(3,(2,1));").unwrap(), b"((1,2),3);");
 //! assert_eq!(norbelath::cut(b"((1,2),(3,4));", 0).unwrap(), b"(3,4) (1,2);");
 //! assert_eq!(norbelath::pair(b"(((1,2),3),4);", b"((1,2),(3,4));"), Ok(true));
+//! assert_eq!(norbelath::form(b"[&U](4,(2,1),3);").unwrap(), b"[&U](1,2,(3,4));");
+//! assert_eq!(norbelath::pair(b"[&U](1,2,(3,4));", b"[&U](1,(2,3),4);"), Ok(true));
 //! let trees = b"((1,2),3); (1,(2,3)); (3,(2,1));";
 //! let graph = norbelath::graph(trees).unwrap();
 //! assert_eq!(graph.pairs, [(0, 1)]);
@@ -35,6 +42,8 @@
 //! assert_eq!(norbelath::sheet(b"(1,2"), b"refused 1 at 4\n");
 //! let refusal = norbelath::form(b"(1,2").unwrap_err();
 //! assert_eq!((refusal.number, refusal.place), (norbelath::Refusal::WRONG_BYTE, 4));
+//! let refusal = norbelath::table(b"(1,2); [&U](1,2);").unwrap_err();
+//! assert_eq!((refusal.number, refusal.place), (norbelath::Refusal::OTHER_KIND, 16));
 //! ```
 
 use std::error::Error;
@@ -46,11 +55,11 @@ pub const MAX_TEXT: usize = 65_535;
 pub const MAX_TREES: usize = 160;
 
 /// The least length of the slice lent to [`form_into`].
-pub const FORM_OUT: usize = 309;
+pub const FORM_OUT: usize = 313;
 /// The least length of the slice lent to [`cut_into`].
 pub const CUT_OUT: usize = 307;
 /// The least length of the slice lent to [`table_into`] for the texts.
-pub const TABLE_TEXTS: usize = 49_440;
+pub const TABLE_TEXTS: usize = 50_080;
 /// The least length of the slice lent to [`table_into`] for the ends.
 pub const TABLE_ENDS: usize = 160;
 /// The least length of the slice lent to [`graph_into`], [`graph_choosing_into`], [`interchanges_into`] or
@@ -69,7 +78,7 @@ pub const SUPPORT_TREES: usize = 9_921;
 /// The least length of the slice lent to [`support_into`] for the majority tree.
 pub const SUPPORT_OUT: usize = 309;
 /// The least length of the slice lent to [`sheet_into`].
-pub const SHEET_OUT: usize = 220_902;
+pub const SHEET_OUT: usize = 221_542;
 
 // A slice is a pointer and its length in elements. The library asks nothing else of its callers than what references
 // give: the memory is there, and what is lent to be written overlaps nothing.
@@ -203,7 +212,7 @@ impl Copies {
 /// Why a call refuses. No lent slice is changed then.
 #[derive(Clone, Copy, Debug, PartialEq, Eq, Hash)]
 pub struct Refusal {
-    /// One of the numbers below, 1 to 9.
+    /// One of the numbers below, 1 to 10.
     pub number: u8,
     /// Which text: 0, or 1 for the pair call's other.
     pub text: u8,
@@ -230,6 +239,8 @@ impl Refusal {
     pub const LONG_TEXT: u8 = 8;
     /// A cut number that the tree does not have.
     pub const NO_SUCH_CUT: u8 = 9;
+    /// Not of the first tree's kind, or unrooted in a call for rooted trees only; the place is the `;` of the tree.
+    pub const OTHER_KIND: u8 = 10;
 }
 
 impl fmt::Display for Refusal {
@@ -244,6 +255,9 @@ impl fmt::Display for Refusal {
             Refusal::SHORT_SLICE => "a lent slice that is too short",
             Refusal::LONG_TEXT => "a text above 65,535 bytes",
             Refusal::NO_SUCH_CUT => "a cut number that the tree does not have",
+            Refusal::OTHER_KIND => {
+                "not of the first tree's kind, or unrooted where only rooted trees are taken"
+            }
             _ => "unknown",
         };
         write!(
@@ -345,7 +359,8 @@ fn answer(call: impl FnOnce(&mut u64, &mut u64) -> u8) -> Result<(usize, usize),
     }
 }
 
-/// Writes the canonical text of a text's one tree into `out`, of at least [`FORM_OUT`] bytes. Gives its length.
+/// Writes the canonical text of a text's one tree, of either kind, into `out`, of at least [`FORM_OUT`] bytes. Gives
+/// its length.
 pub fn form_into(text: &[u8], out: &mut [u8]) -> Result<usize, Refusal> {
     // SAFETY: the pointers and lengths are those of slices, and `&mut` overlaps nothing; so below.
     let (bytes, _) = answer(|first, second| unsafe {
@@ -361,7 +376,8 @@ pub fn form_into(text: &[u8], out: &mut [u8]) -> Result<usize, Refusal> {
     Ok(bytes)
 }
 
-/// Writes the forest text of a cut of a text's one tree into `out`, of at least [`CUT_OUT`] bytes. Gives its length.
+/// Writes the forest text of a cut of a text's one tree, a rooted one, into `out`, of at least [`CUT_OUT`] bytes. Gives
+/// its length.
 ///
 /// A tree of n leaves has the cuts 0 to 2n − 3, in the order in which its nodes begin in the canonical text, without
 /// the root.
@@ -380,7 +396,11 @@ pub fn cut_into(text: &[u8], cut: u64, out: &mut [u8]) -> Result<usize, Refusal>
     Ok(bytes)
 }
 
-/// Whether one move makes the tree of `text` that of `other`, a different topology.
+/// Whether one move makes the tree of `text` that of `other`, of the same kind and a different topology.
+///
+/// One move of a rooted tree takes the subtree at a node away and hangs it on an edge of the rest, or above its root.
+/// One move of an unrooted tree cuts an edge and joins one side, by its cut end, to an edge of the other; either side
+/// may be the one that is moved.
 pub fn pair(text: &[u8], other: &[u8]) -> Result<bool, Refusal> {
     let (yes, _) = answer(|first, second| unsafe {
         norbelath_pair(
@@ -463,8 +483,8 @@ pub fn graph_choosing_into(
     })
 }
 
-/// Writes the pairs of a text's trees that are one nearest-neighbour interchange apart, copies kept apart, into `pairs`
-/// and each tree's number of pairs into `counts`, as [`graph_into`] does for one move.
+/// Writes the pairs of a text's rooted trees that are one nearest-neighbour interchange apart, copies kept apart, into
+/// `pairs` and each tree's number of pairs into `counts`, as [`graph_into`] does for one move.
 pub fn interchanges_into(
     text: &[u8],
     pairs: &mut [u16],
@@ -517,9 +537,9 @@ fn listed(call: impl FnOnce(&mut u64, &mut u64) -> u8) -> Result<GraphSize, Refu
     Ok(GraphSize { trees, pairs })
 }
 
-/// Writes the clades of a text's trees into `clades`, of at least [`SUPPORT_CLADES`] numbers; the number of trees that
-/// have each into `trees`, of at least [`SUPPORT_TREES`]; and the text of the majority tree into `out`, of at least
-/// [`SUPPORT_OUT`] bytes. [`support`] says which they are, and in what order.
+/// Writes the clades of a text's rooted trees into `clades`, of at least [`SUPPORT_CLADES`] numbers; the number of
+/// trees that have each into `trees`, of at least [`SUPPORT_TREES`]; and the text of the majority tree into `out`, of
+/// at least [`SUPPORT_OUT`] bytes. [`support`] says which they are, and in what order.
 pub fn support_into(
     text: &[u8],
     clades: &mut [u64],
@@ -566,7 +586,7 @@ pub fn sheet_into(text: &[u8], out: &mut [u8]) -> Result<usize, Refusal> {
     Ok(bytes)
 }
 
-/// The canonical text of a text's one tree.
+/// The canonical text of a text's one tree, with the mark of an unrooted one.
 pub fn form(text: &[u8]) -> Result<Vec<u8>, Refusal> {
     let mut out = vec![0; FORM_OUT];
     let bytes = form_into(text, &mut out)?;
@@ -574,7 +594,8 @@ pub fn form(text: &[u8]) -> Result<Vec<u8>, Refusal> {
     Ok(out)
 }
 
-/// The forest text of a cut of a text's one tree: what the cut leaves, a space, what it takes away and `;`.
+/// The forest text of a cut of a text's one tree, a rooted one: what the cut leaves, a space, what it takes away and
+/// `;`.
 pub fn cut(text: &[u8], cut: u64) -> Result<Vec<u8>, Refusal> {
     let mut out = vec![0; CUT_OUT];
     let bytes = cut_into(text, cut, &mut out)?;
@@ -603,8 +624,8 @@ pub fn graph_choosing(text: &[u8], copies: Copies) -> Result<Graph, Refusal> {
     graph_by(|pairs, counts, firsts| graph_choosing_into(text, copies, pairs, counts, firsts))
 }
 
-/// The pairs of a text's trees that are one nearest-neighbour interchange apart, and each tree's number of pairs.
-/// Copies are kept apart.
+/// The pairs of a text's rooted trees that are one nearest-neighbour interchange apart, and each tree's number of
+/// pairs. Copies are kept apart.
 ///
 /// An interchange takes a node that is neither the root nor a child of the root and regrafts it on the edge above its
 /// aunt, the sibling of its parent.
@@ -660,8 +681,8 @@ fn list_by(
     Ok((pairs, counts))
 }
 
-/// Every clade of two or more labels of a text's trees, once, with the number of trees that have it, and the majority
-/// tree. Copies are counted.
+/// Every clade of two or more labels of a text's rooted trees, once, with the number of trees that have it, and the
+/// majority tree. Copies are counted.
 ///
 /// A clade has bit L − 1 set for each of its labels L. Clades of more trees come first; of as many, the labels are
 /// compared from the smallest on, and a clade whose labels end first is the lesser: {1,2}, {1,2,3}, {1,3}, {2,3}.

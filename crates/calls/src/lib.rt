@@ -1,18 +1,23 @@
 // The public calls on one tree, on two, and on the texts of a table. None asks anything of its caller: what cannot be answered is
 // refused, and a refusal changes no lent cell.
+use held::Kind;
 use held::Table;
 use held::Tree;
 use lent::enough;
 use reading::Refusal;
 use reading::Step;
+use reading::Takes;
 ghost use mathlib.Core.Path.{_≡_};
 ghost use Prim.Native.Nat.{_≤_};
 ghost use lib.ListN.{length};
 ghost use Rattle.meaning.specs.Tree.{Tree as Topology};
+ghost use Rattle.meaning.specs.Kind.{Kinded, either};
+ghost use Rattle.meaning.specs.EitherKind.{ApartAs};
 ghost use Rattle.meaning.specs.Reading.{got, readTree};
 ghost use Rattle.meaning.specs.Calls.{formCall, cutCall, beside, PairCall, tableCall};
 ghost use Rattle.held.specs.Held.{nodes};
-ghost use Rattle.held.specs.Kept.{Keeps, Kept};
+ghost use Rattle.lent.specs.Runs.{Says};
+ghost use Rattle.held.specs.Kept.{Keeps, KeepsKind, KeptKind};
 ghost use Rattle.calls.specs.Paper.{textOutcome, pairAnswer, tableOutcome};
 ghost use Rattle.calls.specs.Cuts.{CutRoom, cutText};
 ghost use Rattle.calls.specs.Paired.{Answers};
@@ -39,7 +44,8 @@ pub fn refusal_at_zero(number: u8, text: u8) -> Refusal
 pub fn form_call(s: &[u8], out: &mut [u8]) -> TextAnswer
     ensures { λ r. ⌜ textOutcome r (now (out .exit)) ≡ formCall (now (s .entry)) (now (out .entry)) ⌝ }
 {
-    let read = tables::read_lent(s, enough(Tree::FORM_BYTES, out.len(), true));
+    let fits = enough(Tree::KIND_BYTES, out.len(), true);
+    let read = tables::read_lent(s, fits, Takes::Either);
     let step = read.step;
     match step {
         Step::Refused(x) => TextAnswer::Refused(x),
@@ -58,11 +64,12 @@ fn write_cut(out: &mut [u8], tree: Tree, count: usize, cut: usize) -> TextAnswer
     TextAnswer::Written(writing::write_forest(out, 0, tree, cut))
 }
 
-// Cut call: the forest text of one cut of the one tree of s, from the start of out on.
+// Cut call: the forest text of one cut of the one tree of s, which has to be rooted, from the start of out on.
 pub fn cut_call(s: &[u8], cut: usize, out: &mut [u8]) -> TextAnswer
     ensures { λ r. ⌜ textOutcome r (now (out .exit)) ≡ cutCall (now (s .entry)) cut (now (out .entry)) ⌝ }
 {
-    let read = tables::read_lent(s, enough(Tree::FOREST_BYTES, out.len(), true));
+    let fits = enough(Tree::FOREST_BYTES, out.len(), true);
+    let read = tables::read_lent(s, fits, Takes::RootedOnly);
     let step = read.step;
     match step {
         Step::Refused(x) => TextAnswer::Refused(x),
@@ -77,10 +84,24 @@ pub enum PairAnswer {
     Refused(Refusal),
 }
 
+// Whether two trees of one kind are one move apart.
+fn one_move_apart(first: Tree, second: Tree) -> bool
+    requires { ⌜ KeptKind first × KeptKind second ⌝ }
+    ensures { λ r. ⌜
+        ((x y : Kinded) → KeepsKind first x → KeepsKind second y → x .kind ≡ y .kind
+        → Says r (ApartAs (x .kind) (x .tree) (y .tree))) ⌝ }
+{
+    let kind = first.kind;
+    match kind {
+        Kind::Rooted => pairs::one_move_apart(first, second),
+        Kind::Unrooted => unrooted::one_move_apart(first, second),
+    }
+}
+
 // Two trees, the second read from text 1 up to `behind`, where its `;` stands last.
 fn compare(first: Tree, second: Tree, behind: usize) -> PairAnswer
-    requires { ⌜ Kept first × Kept second × (1 ≤ behind) ⌝ }
-    ensures { λ r. ⌜ ((t u : Topology) → Keeps first t → Keeps second u → Answers (beside t (got u behind)) (pairAnswer r)) ⌝ }
+    requires { ⌜ KeptKind first × KeptKind second × (1 ≤ behind) ⌝ }
+    ensures { λ r. ⌜ ((x y : Kinded) → KeepsKind first x → KeepsKind second y → Answers (beside x (got y behind)) (pairAnswer r)) ⌝ }
 {
     let line = tables::unlike(first, second);
     if line != 0 {
@@ -90,7 +111,7 @@ fn compare(first: Tree, second: Tree, behind: usize) -> PairAnswer
             place: behind - 1,
         });
     }
-    if pairs::one_move_apart(first, second) {
+    if one_move_apart(first, second) {
         PairAnswer::Yes
     } else {
         PairAnswer::No
@@ -110,10 +131,10 @@ fn refusal_of_second(x: Refusal) -> Refusal
 
 // The tree of text 0, and text 1.
 fn compare_with_text(first: Tree, s: &[u8]) -> PairAnswer
-    requires { ⌜ Kept first ⌝ }
-    ensures { λ r. ⌜ ((t : Topology) → Keeps first t → Answers (beside t (readTree (now (s .entry)))) (pairAnswer r)) ⌝ }
+    requires { ⌜ KeptKind first ⌝ }
+    ensures { λ r. ⌜ ((x : Kinded) → KeepsKind first x → Answers (beside x (readTree either (now (s .entry)))) (pairAnswer r)) ⌝ }
 {
-    let second = reading::read_tree(s);
+    let second = reading::read_tree(s, Takes::Either);
     let step = second.step;
     match step {
         Step::Refused(x) => PairAnswer::Refused(refusal_of_second(x)),
@@ -131,7 +152,7 @@ pub fn pair_call(first: &[u8], second: &[u8]) -> PairAnswer
     if Tree::TEXT_BYTES < second.len() {
         return PairAnswer::Refused(refusal_at_zero(Refusal::LONG_TEXT, 1));
     }
-    let read = reading::read_tree(first);
+    let read = reading::read_tree(first, Takes::Either);
     let step = read.step;
     match step {
         Step::Refused(x) => PairAnswer::Refused(x),
@@ -165,7 +186,8 @@ pub fn table_call(s: &[u8], texts: &mut [u8], ends: &mut [u32]) -> TableAnswer
         ≡ tableCall (now (s .entry)) (textSlices (now (texts .entry)) (now (ends .entry))) ⌝ }
 {
     let ends_fit = enough(Table::MAX_TREES, ends.len(), true);
-    let read = tables::read_lent_table(s, enough(Table::TEXT_BYTES, texts.len(), ends_fit));
+    let fits = enough(Table::TEXT_BYTES, texts.len(), ends_fit);
+    let read = tables::read_lent_table(s, fits, Takes::Either);
     let step = read.step;
     match step {
         Step::Refused(x) => TableAnswer::Refused(x),

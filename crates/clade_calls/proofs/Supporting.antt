@@ -1,15 +1,15 @@
 -- The ways through the support call: the table is read, its clades are listed and its majority tree is written.
 -- Assumes nothing.
 use mathlib.Core.Path.{_≡_, refl, sym, ap, _∙_}
-use mathlib.Core.List.{List, [], _∷_, List·Memᴰ, List·Memᴰ·head, List·Memᴰ·not-nil}
+use mathlib.Core.List.{List, [], _∷_, List·Memᴰ·head}
 use Prim.Native.Nat.{ℕ, _≤_, _<_}
 use native.Mathlib.Nat.{zero-add}
 use native.Mathlib.Omega.{arith}
 use lib.ListN.{length, length-map}
 use Rattle.meaning.specs.Limits.{formBytes}
-use Rattle.meaning.specs.Tree.{Tree as Topology, leaf, AllGood}
+use Rattle.meaning.specs.Tree.{Tree as Topology, leaf}
+use Rattle.meaning.specs.Kind.{rooted-only}
 use Rattle.meaning.specs.Clade.{clade}
-use Rattle.meaning.specs.Grammar.{AllAlike}
 use Rattle.meaning.specs.Listing.{treeOf}
 use Rattle.meaning.specs.Answer.{accepted}
 use Rattle.meaning.specs.Calls.{tableRead}
@@ -20,7 +20,7 @@ use Rattle.meaning.proofs.Calls.{tells-accepted}
 use Rattle.meaning.proofs.Lent.{lent-ample, concluded}
 use Rattle.lent.specs.Runs.{Wrote}
 use Rattle.lent.proofs.Runs.{sets-start, wrote-length}
-use Rattle.held.specs.Kept.{Keeps, KeepsAll, KeptAll}
+use Rattle.held.specs.Kept.{Keeps, KeepsAll, KeepsTrees}
 use Rattle.held.specs.declared.Tree.{Tree}
 use Rattle.held.specs.declared.Table.{Table}
 use Rattle.held.proofs.Kept.{keeps-holds}
@@ -34,7 +34,7 @@ use Rattle.families.specs.Support.{holders, supported, support, maxClades}
 use Rattle.families.specs.Majority.{majorityText}
 use Rattle.families.specs.SupportCall.{SupportMemory, supportSlices, supportRead, supportOf, supportCall}
 use Rattle.families.proofs.Support.{OneSet, supported-9921}
-use Rattle.families.proofs.Tables.{one-set}
+use Rattle.families.proofs.Tables.{wholeOf, one-set}
 use Rattle.families.proofs.MajorityText.{majority-length}
 use Rattle.families.proofs.SupportCall.{support-tells}
 use Rattle.support.specs.Supports.{SupportRoom, SupportListed}
@@ -56,14 +56,6 @@ kept-one ts us H K one u m =
     let (i, inside, e) = number (leaf 0) m in
     let within : i < length ts = omega (arith, inside, H .count, K .count) in
     ap clade (sym e) ∙ keeps-clade (K .each i inside) (H .each i within) ∙ one (treeOf ts i) (numbered ts (leaf 0) i within)
-
-abbrev wholeOf : List Topology → ℕ
-wholeOf [] = 0
-wholeOf (t ∷ ts) = clade t
-
-read-one : (ts : List Topology) → AllGood ts → AllAlike ts → OneSet (wholeOf ts) ts
-read-one [] A h u m = absurd (List·Memᴰ·not-nil m)
-read-one (t ∷ ts) A h u m = one-set t ts A h u m
 
 -- ---- the table's clades and its majority tree
 module _ {table : Table} {memory : SupportMemory} (R : SupportCallRoom table memory) where
@@ -125,18 +117,17 @@ module _ (s : List ℕ) (memory : SupportMemory) {r : TableRead} (m : TableLent 
   call-refused e = rw (lent-refused m e)
 
   module _ {p k : ℕ} (e : r .step ≡ Next p k) where
-    read : Given length (KeepsAll (r .table)) (supportRead s memory) k
+    read : Given (λ ts. length (ts .trees)) (KeepsTrees (r .table)) (supportRead s memory) k
     read = lent-next m e
 
     pub call-room : SupportCallRoom (r .table) memory
     call-room =
-        let ts = read .value in
-        let (good, told) = tells-accepted (support-tells s memory) (read .is) in
-        let room = lent-ample (supportSlices memory) (tableRead s) (read .is) in
+        let ts = read .value .trees in
+        let room = lent-ample (supportSlices memory) (tableRead rooted-only s) (read .is) in
         record {
-          kept = record { trees = ts; keeps = read .keeps };
+          kept = record { trees = ts; keeps = read .keeps .all };
           whole = wholeOf ts;
-          one = λ us H. kept-one ts us (read .keeps) H (read-one ts good (told .alike));
+          one = λ us H. kept-one ts us (read .keeps .all) H (one-set (tells-accepted (support-tells s memory) (read .is)));
           clades-room = room .0;
           numbers-room = room .1 .0;
           text-room = room .1 .1;
@@ -145,4 +136,4 @@ module _ (s : List ℕ) (memory : SupportMemory) {r : TableRead} (m : TableLent 
     pub call-written : (answer : SupportAnswer) {clades′ numbers′ text′ : List ℕ}
         → ((ts : List Topology) → KeepsAll (r .table) ts → k ≡ length ts → supportOutcome answer clades′ numbers′ text′ ≡ supportOf ts memory)
         → supportOutcome answer clades′ numbers′ text′ ≡ supportCall s memory
-    call-written answer w = w (read .value) (read .keeps) (read .count) ∙ concluded memory (λ ts. supportOf ts memory) (read .is)
+    call-written answer w = w (read .value .trees) (read .keeps .all) (read .count) ∙ concluded memory (λ table. supportOf (table .trees) memory) (read .is)

@@ -5,6 +5,7 @@ use held::Tree;
 use lent::enough;
 use reading::Refusal;
 use reading::Step;
+use reading::Takes;
 use sorting::Pool;
 ghost use mathlib.Core.Path.{_≡_};
 ghost use mathlib.Core.List.{List};
@@ -40,7 +41,7 @@ fn write_support(
     SupportAnswer::Listed(n, bytes, count)
 }
 
-// Support call: the clades of two or more labels of the trees of s, in how many trees each occurs, and the majority tree.
+// Support call: the clades of two or more labels of the trees of s, which have to be rooted, in how many trees each occurs, and the majority tree.
 pub fn support_call(
     s: &[u8],
     clades: &mut [u64],
@@ -53,7 +54,8 @@ pub fn support_call(
 {
     let text_fits = enough(Tree::FORM_BYTES, text.len(), true);
     let numbers_fit = enough(Pool::DISTINCT, numbers.len(), text_fits);
-    let read = tables::read_lent_table(s, enough(Pool::DISTINCT, clades.len(), numbers_fit));
+    let fits = enough(Pool::DISTINCT, clades.len(), numbers_fit);
+    let read = tables::read_lent_table(s, fits, Takes::RootedOnly);
     let step = read.step;
     match step {
         Step::Refused(x) => SupportAnswer::Refused(x),

@@ -9,7 +9,7 @@ use native.Mathlib.Omega.{arith}
 use native.Mathlib.Decide.{ℕ-discrete, decLe}
 use lib.Count.{trailingZeros}
 use lib.Dec.{T, eqb, T-not, not-T}
-use Rattle.meaning.specs.Clade.{digit, HasLabel, lowest, inside, clade}
+use Rattle.meaning.specs.Clade.{digit, HasLabel, lowest, inside}
 use Rattle.meaning.proofs.Logic.{T-eq, T-and}
 use Rattle.meaning.proofs.LabelBits.{Under, under-iff, clear-iff, inside-iff, pow-has, label-pow}
 use Rattle.families.specs.Clades.{size}

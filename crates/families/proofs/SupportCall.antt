@@ -5,32 +5,31 @@ use mathlib.Core.List.{List, _∷_}
 use Prim.Native.Nat.{ℕ, _≤_}
 use native.Mathlib.Omega.{arith}
 use lib.ListN.{length}
-use Rattle.meaning.specs.Limits.{formBytes}
-use Rattle.meaning.specs.Tree.{Tree, AllGood}
-use Rattle.meaning.specs.Grammar.{TableText}
+use Rattle.meaning.specs.Tree.{Tree}
+use Rattle.meaning.specs.Kind.{Kind, Trees, rooted-only}
 use Rattle.meaning.specs.Refusals.{tableCallRefusals}
-use Rattle.meaning.specs.Answer.{accepted, refusal, Outcome, TableMemory}
-use Rattle.meaning.specs.Calls.{enough, tableRead, tableSlices, tableCallRead}
-use Rattle.meaning.proofs.Calls.{Tells, tells-accepted, Line, lent-table-tells}
+use Rattle.meaning.specs.Answer.{accepted, refusal, GraphMemory}
+use Rattle.meaning.specs.Calls.{enough, tableRead, graphSlices, graphRead}
+use Rattle.meaning.proofs.Calls.{Tells, tells-accepted, Line, TableGiven, lent-table-tells}
 use Rattle.meaning.proofs.Lent.{Ample, Short, seven, ample, lent-ample}
-use Rattle.meaning.proofs.Memory.{written-length, concluded}
-use Rattle.families.specs.Support.{supported, support, maxClades}
+use Rattle.meaning.proofs.Memory.{given-few, written-length, concluded}
+use Rattle.families.specs.Support.{supported, support}
 use Rattle.families.specs.Majority.{majorityTree, majorityText}
-use Rattle.families.specs.SupportCall.{SupportSize, SupportMemory, supportSlices, supportRead, supportOf, supportCall}
+use Rattle.families.specs.SupportCall.{SupportMemory, supportSlices, supportRead, supportOf, supportCall}
 use Rattle.families.proofs.Majority.{IsMajority}
-use Rattle.families.proofs.Tables.{table-clades, table-numbers, table-text, table-majority}
+use Rattle.families.proofs.Tables.{one-set, table-clades, table-numbers, table-text, table-majority}
 
 -- the trees of the table's text are accepted; a refusal is a line of the table call
-pub support-tells : (s : List ℕ) (memory : SupportMemory) → Tells (λ ts. AllGood ts × TableText ts s) (Line tableCallRefusals s) (supportRead s memory)
-support-tells s memory = lent-table-tells (enough (supportSlices memory)) s
+pub support-tells : (s : List ℕ) (memory : SupportMemory) → Tells (TableGiven rooted-only s) (Line tableCallRefusals s) (supportRead s memory)
+support-tells s memory = lent-table-tells rooted-only (enough (supportSlices memory)) s
 
 -- line 7, before any text is looked at
 pub support-seven : (s : List ℕ) (memory : SupportMemory) → Short (supportSlices memory) → supportRead s memory ≡ refusal 7 0 0
-support-seven s memory = seven (supportSlices memory) (tableRead s)
+support-seven s memory = seven (supportSlices memory) (tableRead rooted-only s)
 
--- where both are lent enough, it reads what the table call reads
-pub support-table : (s : List ℕ) (memory : SupportMemory) (texts : TableMemory) → Ample (supportSlices memory) → Ample (tableSlices texts) → supportRead s memory ≡ tableCallRead s texts
-support-table s memory texts h k = ample (supportSlices memory) (tableRead s) h ∙ sym (ample (tableSlices texts) (tableRead s) k)
+-- where both are lent enough, it reads what the interchange call reads
+pub support-table : (s : List ℕ) (memory : SupportMemory) (lists : GraphMemory) → Ample (supportSlices memory) → Ample (graphSlices lists) → supportRead s memory ≡ graphRead s lists
+support-table s memory lists h k = ample (supportSlices memory) (tableRead rooted-only s) h ∙ sym (ample (graphSlices lists) (tableRead rooted-only s) k)
 
 -- what is written of an accepted text fits
 pub record Fits (ts : List Tree) (memory : SupportMemory) : Type 0 where
@@ -38,14 +37,15 @@ pub record Fits (ts : List Tree) (memory : SupportMemory) : Type 0 where
   pub numbers-fit : length (support ts) ≤ length (memory .numbers)
   pub text-fits : length (majorityText ts) ≤ length (memory .text)
 
-pub support-fits : (s : List ℕ) (memory : SupportMemory) (ts : List Tree) → supportRead s memory ≡ accepted ts → Fits ts memory
-support-fits s memory ts e =
-    let (good, told) = tells-accepted (support-tells s memory) e in
-    let room = lent-ample (supportSlices memory) (tableRead s) e in
+pub support-fits : (s : List ℕ) (memory : SupportMemory) (table : Trees) → supportRead s memory ≡ accepted table → Fits (table .trees) memory
+support-fits s memory table e =
+    let ts = table .trees in
+    let given = tells-accepted (support-tells s memory) e in
+    let room = lent-ample (supportSlices memory) (tableRead rooted-only s) e in
     record {
-      clades-fit = omega (arith, table-clades ts good (told .alike) (told .few), room .0);
-      numbers-fit = omega (arith, table-numbers ts good (told .alike) (told .few), room .1 .0);
-      text-fits = omega (arith, table-text ts good (told .alike), room .1 .1);
+      clades-fit = omega (arith, table-clades ts (given .good) (one-set given) (given-few given), room .0);
+      numbers-fit = omega (arith, table-numbers ts (given .good) (one-set given) (given-few given), room .1 .0);
+      text-fits = omega (arith, table-text ts (given .good) (one-set given), room .1 .1);
     }
 
 -- each slice keeps its length
@@ -55,12 +55,14 @@ pub support-memory : (s : List ℕ) (memory : SupportMemory)
 support-memory s memory =
     concluded
     (λ (m : SupportMemory). (length (m .clades) ≡ length (memory .clades)) × (length (m .numbers) ≡ length (memory .numbers)) × (length (m .text) ≡ length (memory .text)))
-    (supportRead s memory) memory (λ ts. supportOf ts memory) (refl, refl, refl) (λ ts e.
-    let f = support-fits s memory ts e in
+    (supportRead s memory) memory (λ table. supportOf (table .trees) memory) (refl, refl, refl) (λ table e.
+    let ts = table .trees in
+    let f = support-fits s memory table e in
     (written-length (supported ts) (memory .clades) (f .clades-fit), written-length (support ts) (memory .numbers) (f .numbers-fit), written-length (majorityText ts) (memory .text) (f .text-fits)))
 
 -- the tree written is the majority tree of the trees read
-pub support-majority : (s : List ℕ) (memory : SupportMemory) (t : Tree) (ts : List Tree) → supportRead s memory ≡ accepted (t ∷ ts) → IsMajority (t ∷ ts) (majorityTree (t ∷ ts))
-support-majority s memory t ts e =
-    let (good, told) = tells-accepted (support-tells s memory) e in
-    table-majority t ts good (told .alike)
+pub support-majority : (s : List ℕ) (memory : SupportMemory) (k : Kind) (t : Tree) (ts : List Tree)
+    → supportRead s memory ≡ accepted (record { kind = k; trees = t ∷ ts }) → IsMajority (t ∷ ts) (majorityTree (t ∷ ts))
+support-majority s memory k t ts e =
+    let given = tells-accepted (support-tells s memory) e in
+    table-majority t ts (given .good) (one-set given)

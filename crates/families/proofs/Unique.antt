@@ -20,7 +20,7 @@ use Rattle.meaning.proofs.Labels.{some-leaves}
 use Rattle.meaning.proofs.Length.{leaves-64}
 use Rattle.meaning.proofs.LabelBits.{Under, Clear, under-le, under-iff, clear-iff, pow-has}
 use Rattle.meaning.proofs.Clade.{label-iff, children-clear, lowest-least}
-use Rattle.families.specs.Clades.{size, clades}
+use Rattle.families.specs.Clades.{size}
 use Rattle.families.specs.Grown.{lowBit, firstChild, grow}
 use Rattle.families.specs.Support.{chosen}
 use Rattle.families.specs.Majority.{Multi, join, drawn, Single, Tidy, mark, majorityTree}

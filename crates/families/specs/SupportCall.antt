@@ -5,6 +5,7 @@ use Prim.Native.Nat.{ℕ}
 use lib.ListN.{length}
 use Rattle.meaning.specs.Limits.{formBytes}
 use Rattle.meaning.specs.Tree.{Tree}
+use Rattle.meaning.specs.Kind.{Trees, rooted-only}
 use Rattle.meaning.specs.Answer.{Answer, accepted, Outcome, written, conclude}
 use Rattle.meaning.specs.Calls.{Slice, enough, lent, tableRead}
 use Rattle.families.specs.Support.{supported, support, maxClades}
@@ -26,9 +27,9 @@ pub record SupportMemory : Type 0 where
 abbrev pub supportSlices : SupportMemory → List Slice
 supportSlices memory = (maxClades, length (memory .clades)) ∷ (maxClades, length (memory .numbers)) ∷ (formBytes, length (memory .text)) ∷ []
 
--- what the support call reads
-abbrev pub supportRead : List ℕ → SupportMemory → Answer (List Tree)
-supportRead s memory = lent (enough (supportSlices memory)) (tableRead s)
+-- what the support call reads: rooted trees only
+abbrev pub supportRead : List ℕ → SupportMemory → Answer Trees
+supportRead s memory = lent (enough (supportSlices memory)) (tableRead rooted-only s)
 
 -- the clades, the number of trees beside each, and the majority tree
 abbrev pub supportOf : List Tree → SupportMemory → Outcome SupportSize SupportMemory
@@ -39,4 +40,4 @@ supportOf ts memory = record {
 
 -- support call
 abbrev pub supportCall : List ℕ → SupportMemory → Outcome SupportSize SupportMemory
-supportCall s memory = conclude (supportRead s memory) memory λ ts. supportOf ts memory
+supportCall s memory = conclude (supportRead s memory) memory λ table. supportOf (table .trees) memory

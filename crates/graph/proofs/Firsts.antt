@@ -11,7 +11,6 @@ use Rattle.meaning.specs.Answer.{GraphMemory}
 use Rattle.meaning.proofs.Sums.{map-length, map-at}
 use Rattle.lent.specs.Runs.{Wrote}
 use Rattle.lent.proofs.Runs.{sets-at, wrote-length}
-use Rattle.lent.proofs.Tallies.{zeros-at}
 use Rattle.held.specs.Kept.{KeepsAll}
 use Rattle.held.specs.declared.Table.{Table}
 use Rattle.links.specs.Links.{linkBytes}
@@ -31,5 +30,4 @@ firsts-room {firsts} room w =
           ∙ map-at (firstOf ts) (length ts) i inside;
       lent = omega (arith, room .firsts-room, wrote-length (w (k .trees) (k .keeps)));
       bytes = length-replicate {A = ℕ} linkBytes 0;
-      empty = zeros-at linkBytes;
     }

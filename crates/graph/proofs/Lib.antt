@@ -1,5 +1,6 @@
 pub mod Firsts
 pub mod Listed
+pub mod Moves
 pub mod Stores
 pub mod Turns
 pub mod Unite

@@ -11,7 +11,7 @@ use lib.ListN.{length, take, drop, getD, set, take-append-drop}
 use lib.Seq.{take-suc, take-length, length-take-le, getD-take}
 use Rattle.meaning.specs.Listing.{Pair}
 use Rattle.meaning.specs.Answer.{GraphMemory}
-use Rattle.meaning.specs.Move.{Apart}
+use Rattle.meaning.specs.EitherKind.{ApartAs}
 use Rattle.meaning.specs.Islands.{renumbered, unite, uniteAll}
 use Rattle.meaning.specs.Copies.{firstsOf}
 use Rattle.meaning.proofs.Islands.{listing-within}
@@ -19,8 +19,7 @@ use Rattle.meaning.proofs.MergedIslands.{merged-found}
 use Rattle.lent.specs.Runs.{Wrote}
 use Rattle.lent.proofs.Runs.{sets-start, wrote-one, wrote-more, wrote-length, written-first, same-behind, written-over}
 use Rattle.held.specs.declared.Table.{Table}
-use Rattle.links.specs.declared.Link.the-variants.{Move}
-use Rattle.graph.specs.Copies.{GraphWritten}
+use Rattle.graph.specs.Copies.{MovesWritten}
 use Rattle.links.specs.declared.Copies.the-variants.{Merged}
 use Rattle.graph.specs.Listed.{PairsListed}
 use Rattle.graph.specs.Islands.{IslandsRoom, IslandGraphRoom, IslandsWritten}
@@ -109,18 +108,18 @@ module _ (ms : List ℕ) {n m k : ℕ} {pairs out o₁ : List ℕ} (fits : n ≤
 
 -- ---- the islands of a table's graph
 module _ {table : Table} {memory memory′ : GraphMemory} {firsts firsts′ islands : List ℕ} {m : ℕ}
-    (room : IslandGraphRoom table memory firsts islands) (w : GraphWritten Move Merged table memory memory′ firsts firsts′ m) where
+    (room : IslandGraphRoom table memory firsts islands) (w : MovesWritten Merged table memory memory′ firsts firsts′ m) where
   pub islands-room : IslandsRoom islands firsts′ (table .len) (memory′ .pairs) m
   islands-room =
-      let k = room .graph .kept in
-      let g = w (k .trees) (k .keeps) in
+      let k = room .graph .kept .keeps in
+      let g = w (room .graph .kept .trees) k in
       record {
-        few = omega (arith, k .keeps .count, k .keeps .few);
-        room = omega (arith, k .keeps .count, k .keeps .few, room .islands-room);
-        lent = omega (arith, k .keeps .count, k .keeps .few, room .graph .firsts-room, wrote-length (g .in-firsts));
+        few = omega (arith, k .all .count, k .all .few);
+        room = omega (arith, k .all .count, k .all .few, room .islands-room);
+        lent = omega (arith, k .all .count, k .all .few, room .graph .firsts-room, wrote-length (g .in-firsts));
         linked = g .graph .linked;
-        listed = graph-pairs (room .graph .room) (k .keeps .few) (g .graph);
-        within = rw (k .keeps .count) (listing-within (g .graph .listing));
+        listed = graph-pairs (room .graph .room) (k .all .few) (g .graph);
+        within = rw (k .all .count) (listing-within (g .graph .listing));
       }
 
   pub islands-written : {islands′ : List ℕ} → ((ps : List Pair) → PairsListed (memory′ .pairs) m ps → Wrote (uniteAll (take (table .len) firsts′) ps) islands islands′ 0 (table .len))
@@ -128,11 +127,12 @@ module _ {table : Table} {memory memory′ : GraphMemory} {firsts firsts′ isla
   islands-written {islands′} each ts h =
       let g = w ts h in
       let ps = g .graph .linked in
-      let noted : take (table .len) firsts′ ≡ firstsOf ts =
-      ap (λ (k : ℕ). take k firsts′) (h .count) ∙ written-first (g .in-firsts) (omega (arith, h .few, room .graph .firsts-room)) in
+      let k = h .all in
+      let noted : take (table .len) firsts′ ≡ firstsOf (ts .trees) =
+      ap (λ (n : ℕ). take n firsts′) (k .count) ∙ written-first (g .in-firsts) (omega (arith, k .few, room .graph .firsts-room)) in
       record {
         merged = g;
-        numbers = uniteAll (firstsOf ts) ps;
-        found = merged-found ts Apart (g .graph .listing);
-        in-islands = subst₂ (λ (xs : List ℕ) (k : ℕ). Wrote (uniteAll xs ps) islands islands′ 0 k) noted (h .count) (each ps (graph-pairs (room .graph .room) (h .few) (g .graph)));
+        numbers = uniteAll (firstsOf (ts .trees)) ps;
+        found = merged-found (ts .trees) (ApartAs (ts .kind)) (g .graph .listing);
+        in-islands = subst₂ (λ (xs : List ℕ) (n : ℕ). Wrote (uniteAll xs ps) islands islands′ 0 n) noted (k .count) (each ps (graph-pairs (room .graph .room) (k .few) (g .graph)));
       }

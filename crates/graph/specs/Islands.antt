@@ -4,17 +4,16 @@ use mathlib.Core.List.{List}
 use Prim.Native.Nat.{ℕ, _≤_}
 use lib.ListN.{length}
 use Rattle.meaning.specs.Limits.{maxTrees}
-use Rattle.meaning.specs.Tree.{Tree as Topology}
+use Rattle.meaning.specs.Kind.{Trees}
+use Rattle.meaning.specs.EitherKind.{ApartAs}
 use Rattle.meaning.specs.Listing.{Pair}
 use Rattle.meaning.specs.Answer.{GraphMemory}
 use Rattle.meaning.specs.Islands.{Within}
 use Rattle.meaning.specs.Copies.{MergedIslands}
 use Rattle.lent.specs.Runs.{Wrote}
 use Rattle.held.specs.declared.Table.{Table}
-use Rattle.links.specs.declared.Link.the-variants.{Move}
-use Rattle.links.specs.Links.{OfTrees}
 use Rattle.links.specs.declared.Copies.the-variants.{Merged}
-use Rattle.graph.specs.Copies.{GraphRoom, FirstsGraph}
+use Rattle.graph.specs.Copies.{MovesRoom, FirstsGraph, OfOneKind}
 use Rattle.graph.specs.Listed.{PairsListed}
 
 -- there is room for the numbers of n positions, `firsts` begins with theirs, and `pairs` with m pairs of them
@@ -27,17 +26,17 @@ pub record IslandsRoom (numbers firsts : List ℕ) (n : ℕ) (pairs : List ℕ) 
   pub within : Within n linked
 
 -- the merged graph of the trees ts was written, and the numbers of its islands
-pub record IslandGraph (ts : List Topology) (memory memory′ : GraphMemory) (firsts firsts′ islands islands′ : List ℕ) (r : ℕ) : Type 0 where
-  pub merged : FirstsGraph Move Merged ts memory memory′ firsts firsts′ r
+pub record IslandGraph (ts : Trees) (memory memory′ : GraphMemory) (firsts firsts′ islands islands′ : List ℕ) (r : ℕ) : Type 0 where
+  pub merged : FirstsGraph (ApartAs (ts .kind)) Merged (ts .trees) memory memory′ firsts firsts′ r
   pub numbers : List ℕ
-  pub found : MergedIslands ts (merged .graph .linked) numbers
-  pub in-islands : Wrote numbers islands islands′ 0 (length ts)
+  pub found : MergedIslands (ts .trees) (merged .graph .linked) numbers
+  pub in-islands : Wrote numbers islands islands′ 0 (length (ts .trees))
 
 -- there is room for both, of as many trees as a table can have
 pub record IslandGraphRoom (table : Table) (memory : GraphMemory) (firsts islands : List ℕ) : Type 0 where
-  pub graph : GraphRoom table memory firsts
+  pub graph : MovesRoom table memory firsts
   pub islands-room : maxTrees ≤ length islands
 
 -- both were written of the table's trees
 abbrev pub IslandsWritten : Table → GraphMemory → GraphMemory → List ℕ → List ℕ → List ℕ → List ℕ → ℕ → Type 0
-IslandsWritten table memory memory′ firsts firsts′ islands islands′ r = OfTrees table (λ ts. IslandGraph ts memory memory′ firsts firsts′ islands islands′ r)
+IslandsWritten table memory memory′ firsts firsts′ islands islands′ r = OfOneKind table (λ ts. IslandGraph ts memory memory′ firsts firsts′ islands islands′ r)

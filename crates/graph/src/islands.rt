@@ -1,8 +1,7 @@
 // Islands: positions that chains of listed pairs join, and their copies. The number of each is the smallest position in it.
-use super::list_pairs;
+use super::list_moves;
 use held::Table;
 use links::Copies;
-use links::Link;
 ghost use mathlib.Core.Path.{_≡_};
 ghost use mathlib.Core.List.{List, map};
 ghost use Prim.Native.Nat.{_≤_, _<_};
@@ -84,7 +83,7 @@ pub fn list_islands(
         (slices (now (pairs .exit)) (now (counts .exit))) (now (firsts .entry)) (now (firsts .exit))
         (now (islands .entry)) (now (islands .exit)) r ⌝ }
 {
-    let m = list_pairs(pairs, counts, firsts, table, Link::Move, Copies::Merged);
+    let m = list_moves(pairs, counts, firsts, table, Copies::Merged);
     number_islands(islands, firsts, table.len, pairs, m);
     m
 }

@@ -1,17 +1,20 @@
 // The graph of a table: listing and counting its linked positions, and its islands.
 pub mod islands;
 
+use held::Kind;
 use held::Table;
 pub use islands::list_islands;
 use links::Copies;
 use links::Link;
 use links::Links;
+ghost use mathlib.Core.Path.{_≡_};
 ghost use Prim.Native.Nat.{_≤_, _<_};
 ghost use Rattle.meaning.specs.Limits.{maxTrees};
 ghost use Rattle.meaning.specs.Loops.{row};
+ghost use Rattle.held.specs.Kept.{kindOf};
 ghost use Rattle.links.specs.Links.{LinkedIn, linked?};
 ghost use Rattle.graph.specs.Graph.{slices, PairRoom, PairAdded, PairsRoom, Listed, ListRoom, Graph};
-ghost use Rattle.graph.specs.Copies.{GraphRoom, GraphWritten};
+ghost use Rattle.graph.specs.Copies.{GraphRoom, GraphWritten, moveOf, MovesRoom, MovesWritten};
 
 // Lists the pair of i and j as number m, and counts it at both; returns the next number.
 fn add_pair(pairs: &mut [u16], counts: &mut [u16], m: usize, i: usize, j: usize) -> usize
@@ -90,4 +93,31 @@ pub fn list_pairs(
     let mut links = [0u8; Links::SIZE];
     links::link_positions(&mut links, table, firsts, by, copies);
     list_links(pairs, counts, &links, table.len)
+}
+
+// The move that links trees of this kind.
+fn move_of(kind: Kind) -> Link
+    ensures { λ r. ⌜ r ≡ moveOf (kindOf kind) ⌝ }
+{
+    match kind {
+        Kind::Rooted => Link::Move,
+        Kind::Unrooted => Link::UnrootedMove,
+    }
+}
+
+// Does so for the pairs that are one move apart, by the move of the trees' kind.
+pub fn list_moves(
+    pairs: &mut [u16],
+    counts: &mut [u16],
+    firsts: &mut [u16],
+    table: Table,
+    copies: Copies,
+) -> usize
+    requires { ⌜ MovesRoom table (slices (now pairs) (now counts)) (now firsts) ⌝ }
+    ensures { λ r. ⌜
+        MovesWritten copies table (slices (now (pairs .entry)) (now (counts .entry)))
+        (slices (now (pairs .exit)) (now (counts .exit))) (now (firsts .entry)) (now (firsts .exit)) r ⌝ }
+{
+    let by = move_of(table.kind());
+    list_pairs(pairs, counts, firsts, table, by, copies)
 }

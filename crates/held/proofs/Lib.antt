@@ -5,3 +5,5 @@ pub mod Kept
 pub mod Labels
 pub mod Laws
 pub mod Preorder
+pub mod Turning
+pub mod Hanging

@@ -1,5 +1,9 @@
 // A held rooted binary tree: its nodes in preorder, one byte each. A leaf's byte is its label, 1 to 64; a fork's is 64 and
 // the number of leaves below it. A fork's first child is the next node, and a subtree is one run of bytes. And a table of them.
+// The module `turned` hangs an unrooted tree at its smallest label.
+pub mod turned;
+
+pub use turned::hung;
 ghost use mathlib.Core.Path.{_≡_};
 ghost use mathlib.Core.List.{List, []};
 ghost use Prim.Native.Nat.{_+_, _-_, _≤_, _<_};
@@ -8,12 +12,22 @@ ghost use Rattle.meaning.specs.Limits.{maxNodes, maxTrees};
 ghost use Rattle.meaning.specs.Tree.{Tree as Topology, leaves as leavesOf, SameTopology, canon};
 ghost use Rattle.lent.specs.Runs.{Wrote, Says};
 ghost use Rattle.held.specs.Held.{Holds, Held, Room, Noted, Marked, Cuts, HasCut, nodes, pre, hold, cutIn};
-ghost use Rattle.held.specs.Kept.{Keeps, Kept, KeepsAll, KeptAll, Adds};
+ghost use Rattle.held.specs.Kept.{kindOf, Keeps, Kept, KeepsAll, KeptAll, KeepsTrees, Adds};
+ghost use Rattle.held.specs.declared.Kind.the-variants.{Rooted};
+ghost use Rattle.meaning.specs.Kind.{rooted, Trees};
 ghost use Rattle.meaning.specs.Copies.{firstsOf};
 
-// A tree in canonical order: equal bytes are equal topologies, and node number c + 1 is cut number c.
+// Whether a tree has a root.
+pub enum Kind {
+    Rooted,
+    Unrooted,
+}
+
+// A tree in canonical order: equal bytes are equal topologies, and node number c + 1 is cut number c. An unrooted tree is held
+// as the rooted tree that stands for it, which hangs from its smallest label.
 pub struct Tree {
     pub node: [u8; Tree::MAX_NODES],
+    pub kind: Kind,
 }
 
 impl Tree {
@@ -26,24 +40,31 @@ impl Tree {
     // Brackets that are open at once: 64 leaves never need more.
     pub const MAX_OPEN: usize = (Tree::MAX_LABEL as usize) - 1;
 
-    // Nodes of a text that may yet be refused: 64 labels, 63 forks that are closed and 63 that are open.
-    pub const MAX_DRAFT: usize = Tree::MAX_NODES + Tree::MAX_OPEN;
+    // Nodes of a text that may yet be refused: 64 labels, as many forks that are closed, and 63 that are open.
+    pub const MAX_DRAFT: usize = 2 * (Tree::MAX_LABEL as usize) + Tree::MAX_OPEN;
 
     // A fork's byte is this and the leaves below it.
     pub const FORK: u8 = Tree::MAX_LABEL;
 
-    // Bytes of a tree text, of the longest canonical text and of the longest forest text.
+    // Bytes of a tree text, of the longest canonical text of a rooted tree and of the longest forest text.
     pub const TEXT_BYTES: usize = 65535;
 
     pub const FORM_BYTES: usize = 309;
 
     pub const FOREST_BYTES: usize = 307;
 
+    // A mark has four bytes.
+    pub const MARK_BYTES: usize = 4;
+
+    // Bytes lent for a canonical text of either kind.
+    pub const KIND_BYTES: usize = Tree::FORM_BYTES + Tree::MARK_BYTES;
+
     pub fn empty() -> Self
-        ensures { λ r. ⌜ r .node ≡ replicate maxNodes 0 ⌝ }
+        ensures { λ r. ⌜ r ≡ record { node = replicate maxNodes 0; kind = Rooted } ⌝ }
     {
         Self {
             node: [0u8; Tree::MAX_NODES],
+            kind: Kind::Rooted,
         }
     }
 
@@ -56,7 +77,10 @@ impl Tree {
         note_smallest(&mut low, n, 0);
         let mut out = [0u8; Tree::MAX_NODES];
         order(&mut out, 0, n, &low, 0);
-        Self { node: out }
+        Self {
+            node: out,
+            kind: Kind::Rooted,
+        }
     }
 
     // What cut c leaves of the tree, in canonical order.
@@ -82,18 +106,26 @@ impl Table {
     pub const MAX_TREES: usize = 160;
 
     // Bytes lent to the table call: a canonical text for each tree.
-    pub const TEXT_BYTES: usize = Table::MAX_TREES * Tree::FORM_BYTES;
+    pub const TEXT_BYTES: usize = Table::MAX_TREES * Tree::KIND_BYTES;
 
     // Numbers lent for pairs: i and j of each two trees.
     pub const PAIR_NUMBERS: usize = Table::MAX_TREES * (Table::MAX_TREES - 1);
 
     pub fn empty() -> Self
-        ensures { λ r. ⌜ KeepsAll r [] ⌝ }
+        ensures { λ r. ⌜ KeepsTrees r (record { kind = rooted; trees = [] }) ⌝ }
     {
         Self {
             trees: [Tree::empty(); Table::MAX_TREES],
             len: 0,
         }
+    }
+
+    // The kind of its trees: the table's records are rooted until there is one.
+    pub fn kind(self) -> Kind
+        ensures { λ r. ⌜ ((ts : Trees) → KeepsTrees self ts → kindOf r ≡ ts .kind) ⌝ }
+    {
+        let first = self.trees[0];
+        first.kind
     }
 
     // The table goes in and out by value, 20 KB: this is for once a tree, not for inner loops.
@@ -167,7 +199,7 @@ fn order(out: &mut [u8], at: usize, n: &[u8], low: &[u8], k: usize) -> usize
 }
 
 // Copies the subtree at k into `out` from `at` on; returns the place behind it.
-fn copy_node(out: &mut [u8], at: usize, n: &[u8], k: usize) -> usize
+pub fn copy_node(out: &mut [u8], at: usize, n: &[u8], k: usize) -> usize
     requires { ⌜ Room (λ t. at + nodes t) (now n) k (length (now out)) ⌝ }
     ensures { λ r. ⌜ ((t : Topology) → Holds (now (n .entry)) k t → Wrote (pre t) (now (out .entry)) (now (out .exit)) at r) ⌝ }
 {

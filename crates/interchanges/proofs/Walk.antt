@@ -1,10 +1,10 @@
 -- The walk down two held trees to where they differ in both children.
 -- Assumes nothing.
-use mathlib.Core.Path.{_≡_, sym, ap, subst, subst₂, _∙_}
+use mathlib.Core.Path.{_≡_, ap, subst, subst₂, _∙_}
 use mathlib.Core.Logic.{_↔_}
 use mathlib.Core.Bool.{Bool}
 use mathlib.Core.List.{List}
-use Prim.Native.Nat.{ℕ, _+_, _-_, _≤_, _<_}
+use Prim.Native.Nat.{ℕ, _+_, _≤_, _<_}
 use native.Mathlib.Omega.{arith}
 use native.Mathlib.Decide.{ℕ-discrete}
 use lib.ListN.{getD}
@@ -17,13 +17,13 @@ use Rattle.meaning.proofs.Canon.{canon-distinct, canon-topology}
 use Rattle.meaning.proofs.Interchange.{interchange-leaves, interchange-distinct, interchange-sym, interchange-topology}
 use Rattle.lent.specs.Runs.{Common, Says}
 use Rattle.lent.proofs.Says.{says}
-use Rattle.held.specs.Held.{Holds, nodes, pre}
+use Rattle.held.specs.Held.{Holds, nodes}
 use Rattle.held.specs.Kept.{Keeps}
 use Rattle.held.specs.declared.Tree.{Tree as Record}
-use Rattle.held.proofs.Laws.{children, forked, leafed, fork-byte, some-nodes}
+use Rattle.held.proofs.Laws.{children, forked, leafed, fork-byte}
 use Rattle.interchanges.specs.Interchanged.{Regrouped}
 use Rattle.pairs.specs.Ordered.{InOrder}
-use Rattle.pairs.proofs.Runs.{byte-is, same-width, run-same}
+use Rattle.pairs.proofs.Runs.{common-same, common-differ}
 use Rattle.pairs.proofs.Children.{SecondAt, forks-leaf}
 use Rattle.interchanges.proofs.Regroup.{step-second, step-first, step-here, regrouped-interchange}
 
@@ -35,22 +35,6 @@ no-interchange : {t u : Tree} {n : ℕ} → Interchange t u → t ≡ leaf n →
 no-interchange (here {z} {parent} f g) e = forks-leaf (subst (Forks parent z) e g)
 no-interchange (Interchange.in-first i) e = clash cc
 no-interchange (Interchange.in-second i) e = clash cc
-
--- ---- bytes in common
-module _ {xs ys : List ℕ} {same : ℕ} (C : Common xs ys maxNodes same) where
-  -- trees that are held at one index, the first of them within what is in common, are the same
-  common-same : {k : ℕ} {a c : Tree} → Holds xs k a → Holds ys k c → k + nodes a ≤ same → a ≡ c
-  common-same {k} {a} {c} g h fits =
-      let head : getD xs k 0 ≡ getD ys k 0 = C .same k (omega (arith, some-nodes a)) in
-      run-same g h (same-width g h head) (λ m lt. C .same (k + m) (omega arith))
-
-  -- and those are not within which the first difference is
-  common-differ : {k : ℕ} {a c : Tree} → Holds xs k a → Holds ys k c → k ≤ same → same < k + nodes a → same < maxNodes → ¬ (a ≡ c)
-  common-differ {k} {a} {c} g h from to more e =
-      let m = same - k in
-      let at : k + m ≡ same = omega arith in
-      let equal = byte-is g m (omega arith) ∙ ap (λ (v : Tree). getD (pre v) m 0) e ∙ sym (byte-is h m (omega (arith, ap nodes e))) in
-      C .differ more (rw at at equal)
 
 -- ---- the walk
 -- the trees s and r are held at k, and one interchange makes the one the other exactly when one makes t u; where they have as many leaves, nothing before k differs

@@ -12,13 +12,14 @@ use Rattle.meaning.specs.Limits.{maxNodes, maxTrees}
 use Rattle.meaning.specs.Tree.{Tree as Topology, canon}
 use Rattle.meaning.specs.Move.{Cut}
 use Rattle.meaning.specs.Listing.{treeOf}
-use Rattle.meaning.proofs.Canon.{canon-distinct, canon-canonical}
 use Rattle.meaning.proofs.TableText.{good-at}
 use Rattle.held.specs.Held.{pre, Holds, hold}
 use Rattle.held.specs.Kept.{Keeps}
 use Rattle.held.specs.declared.Tree.{Tree as Record}
+use Rattle.held.specs.declared.Kind.the-variants.{Rooted}
 use Rattle.held.proofs.Kept.{keeps-holds}
 use Rattle.pairs.specs.Pair.{OrderedCut, SameForest}
+use Rattle.pairs.proofs.Ordered.{canon-in-order}
 use Rattle.prints.proofs.Print.{key-same, key-some}
 use Rattle.chains.specs.Chains.{rowEntries, Last, HasKey}
 use Rattle.chains.proofs.Laws.{last-less, Walk, walk-begins, walk-further, walk-ends}
@@ -41,9 +42,9 @@ module _ {ts : List Topology} {e : ℕ} (E : Entry ts e) where
     pub entry-tree : treeNo e < 160
     entry-tree = omega (arith, E .inside, R .few)
 
-    -- the record that would keep it
+    -- a record that would keep it
     abbrev record-of : Record
-    record-of = record { node = hold (canon (treeOf ts (treeNo e))) }
+    record-of = record { node = hold (canon (treeOf ts (treeNo e))); kind = Rooted }
 
     keeps : Keeps record-of (treeOf ts (treeNo e))
     keeps = record { good = good-at ts (R .good) (treeNo e) (E .inside); bytes = refl }
@@ -63,10 +64,7 @@ module _ {ts : List Topology} {e : ℕ} (E : Entry ts e) where
     row-holds is = rw is (keeps-holds keeps)
 
     pub row-cut : {xs : List ℕ} → xs ≡ hold (canon (treeOf ts (treeNo e))) → OrderedCut xs (cutNo e)
-    row-cut is =
-        let t = treeOf ts (treeNo e) in
-        let D = keeps .good .distinct in
-        record { tree = canon t; holds = row-holds is; in-order = record { distinct = canon-distinct t D; canonical = canon-canonical t D }; is-cut = E .is-cut }
+    row-cut is = let t = treeOf ts (treeNo e) in record { tree = canon t; holds = row-holds is; in-order = canon-in-order t (keeps .good .distinct); is-cut = E .is-cut }
 
 -- ---- keys
 module _ {ts : List Topology} {keys : List ℕ} (K : Keyed ts keys) {e : ℕ} (E : Entry ts e) where

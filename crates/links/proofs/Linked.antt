@@ -1,7 +1,7 @@
 -- Links of first positions, and of all positions by their firsts.
 -- Assumes nothing.
 use mathlib.Core.Path.{_≡_, sym, ap₂, subst, _∙_}
-use mathlib.Core.Logic.{_↔_, _≢_}
+use mathlib.Core.Logic.{_↔_, _≢_, _⊎_, inl, inr}
 use mathlib.Core.Bool.{Bool, true, _&&_}
 use mathlib.Core.List.{List}
 use Prim.Native.Nat.{ℕ, min, max, _+_, _*_, _<_}
@@ -18,17 +18,20 @@ use Rattle.meaning.proofs.Logic.{and-left, and-right}
 use Rattle.meaning.proofs.Copies.{first-inside, first-own, OnTopologies, moves-on, interchanges-on, ordered-related, of-two, ordered-less}
 use Rattle.held.specs.declared.Table.{Table}
 use Rattle.held.proofs.Kept.{keeps-good}
-use Rattle.links.specs.Link.{Linked}
+use Rattle.unrooted.proofs.Apart.{unrooted-moves-on}
+use Rattle.links.specs.Link.{Linked, Tried}
 use Rattle.links.specs.declared.Link.{Link}
-use Rattle.links.specs.declared.Link.the-variants.{Move, Interchange}
-use Rattle.links.specs.Links.{Shows}
-use Rattle.links.specs.Copies.{linkOf, FirstsNoted, FirstsRoom, FirstsLinked, TreesLinked, CopyRoom}
+use Rattle.links.specs.declared.Link.the-variants.{Move, UnrootedMove, Interchange}
+use Rattle.links.specs.declared.Test.the-variants.{Respun, Interchanged}
+use Rattle.links.specs.Links.{LinkedIn, Shows}
+use Rattle.links.specs.Copies.{linkOf, FirstsNoted, FirstsRoom, NoneLinked, FirstsLinked, TriedLinked, TreesLinked, CopyRoom}
 use Rattle.links.specs.declared.Copies.{Copies}
 use Rattle.links.specs.declared.Copies.the-variants.{Merged, KeptApart}
 
--- both kinds of link hang on topologies
+-- each link hangs on topologies
 pub link-on : (by : Link) → OnTopologies (Linked by)
 link-on Move = moves-on
+link-on UnrootedMove = unrooted-moves-on
 link-on Interchange = interchanges-on
 
 -- ---- the byte of two firsts
@@ -63,12 +66,43 @@ both-iff ts firsts i j e f = (
   λ x. rw (eq-eqb (getD firsts i 0) i (e ∙ x .0), eq-eqb (getD firsts j 0) j (f ∙ x .1)),
 )
 
--- what a test of first positions tells of two
-pub linked-iff : {x : ℕ} {b t : Bool} {P Q R : Type 0} → (x ≡ 1) ↔ ((b ≡ true) × R) → b ≡ t → (t ≡ true) ↔ (P × Q) → (x ≡ 1) ↔ (P × Q × R)
-linked-iff told e both = (
-  λ f. let (g, r) = told .0 f in let (p, q) = both .0 (sym e ∙ g) in (p, q, r),
-  λ x. told .1 (e ∙ both .1 (x .0, x .1), x .2),
-)
+-- a byte of two positions that has not changed, as a test
+pub byte-iff : {x y : ℕ} {b : Bool} → b ≡ eqb x 1 → x ≡ y → (b ≡ true) ↔ (y ≡ 1)
+byte-iff {x} e f = (λ t. sym f ∙ eqb-true x 1 (sym e ∙ t), λ g. e ∙ eq-eqb x 1 (f ∙ g))
+
+-- what the test of two positions tells
+pub linked-iff : {x : ℕ} {l b t : Bool} {E P Q R : Type 0} → (x ≡ 1) ↔ ((l ≡ true) ⊎ ((b ≡ true) × R)) → (l ≡ true) ↔ E → b ≡ t → (t ≡ true) ↔ (P × Q) → (x ≡ 1) ↔ (E ⊎ (P × Q × R))
+linked-iff {x} {l} {b} {E} {P} {Q} {R} told was e both = (λ f. to (told .0 f), λ y. told .1 (from y))
+  where
+    to : (l ≡ true) ⊎ ((b ≡ true) × R) → E ⊎ (P × Q × R)
+    to (inl f) = inl (was .0 f)
+    to (inr (g, r)) = let (p, q) = both .0 (sym e ∙ g) in inr (p, q, r)
+
+    from : E ⊎ (P × Q × R) → (l ≡ true) ⊎ ((b ≡ true) × R)
+    from (inl y) = inl (was .1 y)
+    from (inr (p, q, r)) = inr (e ∙ both .1 (p, q), r)
+
+-- ---- the links of first positions
+module _ {table : Table} (links links′ : List ℕ) where
+  -- those that pass for an interchange, where none were linked
+  pub interchanges-linked : NoneLinked links → TriedLinked Interchanged table links links′ → FirstsLinked Interchange table links′
+  interchanges-linked none tried ts h i j lt l = (λ x. only (tried ts h i j lt l .0 x), λ y. tried ts h i j lt l .1 (inr y))
+    where
+      only : {P : Type 0} → LinkedIn links i j ⊎ P → P
+      only (inl e) = absurd (omega (arith, e, none (i * maxTrees + j)))
+      only (inr p) = p
+
+  -- those that differ by the place of the root, and those that were linked by a move
+  pub unrooted-linked : FirstsLinked Move table links → TriedLinked Respun table links links′ → FirstsLinked UnrootedMove table links′
+  unrooted-linked moves tried ts h i j lt l = (λ x. to (tried ts h i j lt l .0 x), λ y. tried ts h i j lt l .1 (from y))
+    where
+      to : LinkedIn links i j ⊎ LinkedBy merged (Tried Respun) ts i j → LinkedBy merged (Linked UnrootedMove) ts i j
+      to (inl x) = let (f, g, a) = moves ts h i j lt l .0 x in (f, g, inl a)
+      to (inr (f, g, r)) = (f, g, inr r)
+
+      from : LinkedBy merged (Linked UnrootedMove) ts i j → LinkedIn links i j ⊎ LinkedBy merged (Tried Respun) ts i j
+      from (f, g, inl a) = inl (moves ts h i j lt l .1 (f, g, a))
+      from (f, g, inr r) = inr (f, g, r)
 
 -- ---- which positions are
 -- all are linked as their firsts are

@@ -23,7 +23,7 @@ use Rattle.held.proofs.Laws.{few-nodes}
 use Rattle.pairs.specs.Pair.{SameForest, SharesForest}
 use Rattle.pairs.proofs.Apart.{share-move, move-share}
 use Rattle.prints.proofs.Print.{key-some}
-use Rattle.chains.specs.Chains.{rowEntries, entries, Last}
+use Rattle.chains.specs.Chains.{rowEntries, Last}
 use Rattle.links.specs.Links.{linkBytes, LinkedIn, Shows}
 use Rattle.links.specs.Entries.{treeNo, cutNo, forestAt, Entry, SameAs, Keyed, Twins, Linkable, LinkedBack, Sharing, SharesLinked}
 

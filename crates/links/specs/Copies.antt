@@ -1,6 +1,7 @@
 -- Copies merged or kept apart: what linking positions asks of the first positions, and what it leaves.
 -- Assumes nothing.
 use mathlib.Core.Path.{_≡_}
+use mathlib.Core.Logic.{_⊎_}
 use mathlib.Core.Bool.{cond}
 use mathlib.Core.List.{List}
 use Prim.Native.Nat.{ℕ, min, max, _+_, _*_, _≤_, _<_}
@@ -10,9 +11,10 @@ use Rattle.meaning.specs.Limits.{maxTrees}
 use Rattle.meaning.specs.Copies.{Choice, merged, kept-apart, firstOf, LinkedBy}
 use Rattle.held.specs.Kept.{KeptAll}
 use Rattle.held.specs.declared.Table.{Table}
-use Rattle.links.specs.Link.{Linked}
+use Rattle.links.specs.Link.{Linked, Tried}
 use Rattle.links.specs.declared.Link.{Link}
-use Rattle.links.specs.Links.{linkBytes, Shows, OfTrees}
+use Rattle.links.specs.declared.Test.{Test}
+use Rattle.links.specs.Links.{linkBytes, LinkedIn, Shows, OfTrees}
 use Rattle.links.specs.declared.Copies.{Copies}
 use Rattle.links.specs.declared.Copies.the-variants.{Merged, KeptApart}
 
@@ -25,17 +27,24 @@ choiceOf KeptApart = kept-apart
 abbrev pub FirstsNoted : Table → List ℕ → Type 0
 FirstsNoted table firsts = OfTrees table (λ ts. (i : ℕ) → i < length ts → getD firsts i 0 ≡ firstOf ts i)
 
--- the table keeps some trees, whose firsts are noted, and there is a byte for each two positions, which links none
+-- the table keeps some trees, whose firsts are noted, and there is a byte for each two positions
 pub record FirstsRoom (table : Table) (firsts links : List ℕ) : Type 0 where
   pub kept : KeptAll table
   pub noted : FirstsNoted table firsts
   pub lent : maxTrees ≤ length firsts
   pub bytes : length links ≡ linkBytes
-  pub empty : (place : ℕ) → getD links place 0 ≡ 0
+
+-- the bytes link no two positions
+abbrev pub NoneLinked : List ℕ → Type 0
+NoneLinked links = (place : ℕ) → getD links place 0 ≡ 0
 
 -- the bytes show which first positions are so linked
 abbrev pub FirstsLinked : Link → Table → List ℕ → Type 0
 FirstsLinked by table links = OfTrees table (λ ts. Shows links (length ts) (LinkedBy merged (Linked by) ts))
+
+-- linked are the positions that were, and the first positions whose trees pass the test
+abbrev pub TriedLinked : Test → Table → List ℕ → List ℕ → Type 0
+TriedLinked test table links links′ = OfTrees table (λ ts. Shows links′ (length ts) (λ i j. LinkedIn links i j ⊎ LinkedBy merged (Tried test) ts i j))
 
 -- the bytes show which positions are so linked, with copies so chosen
 abbrev pub TreesLinked : Link → Copies → Table → List ℕ → Type 0

@@ -4,16 +4,18 @@ use super::Links;
 use chains::Entries;
 use held::Table;
 use held::Tree;
-ghost use Prim.Native.Nat.{ℕ};
+ghost use mathlib.Core.Path.{_≡_};
 ghost use mathlib.Core.List.{List};
+ghost use Prim.Native.Nat.{ℕ};
+ghost use lib.ListN.{length};
 ghost use Rattle.meaning.specs.Tree.{Tree as Topology, canon};
 ghost use Rattle.lent.specs.Runs.{Says};
 ghost use Rattle.held.specs.Kept.{Keeps};
 ghost use Rattle.pairs.specs.Pair.{SameForest};
 ghost use Rattle.links.specs.declared.Link.the-variants.{Move};
 ghost use Rattle.chains.specs.Chains.{Last};
-ghost use Rattle.links.specs.Links.{OfTrees};
-ghost use Rattle.links.specs.Copies.{FirstsRoom, FirstsLinked};
+ghost use Rattle.links.specs.Links.{linkBytes, OfTrees};
+ghost use Rattle.links.specs.Copies.{FirstsRoom, NoneLinked, FirstsLinked};
 ghost use Rattle.links.specs.Entries.{forestAt, Entry, SameAs, Rows, Laid, RowRoom, RowLaid, LayRoom, EntryIn, Seeks, Seekable, Linkable, LinkRoom, LinkedBack, SharesLinked, ShareRoom};
 
 // Lays the tree's bytes and the keys of its cuts out in row i: node p, and the cut there, at i * ROW + p.
@@ -106,8 +108,8 @@ fn link_sharing(
 // Links the first positions of topologies that are one move apart: distinct trees are exactly when they share a forest
 // (Lemma 2.2 of document 001).
 pub fn link_moves(links: &mut [u8; Links::SIZE], table: Table, firsts: &[u16])
-    requires { ⌜ FirstsRoom table (now firsts) (now links) ⌝ }
-    ensures { λ _. ⌜ FirstsLinked Move table (now (links .exit)) ⌝ }
+    requires { ⌜ FirstsRoom table (now firsts) (now links) × NoneLinked (now links) ⌝ }
+    ensures { λ _. ⌜ FirstsLinked Move table (now (links .exit)) × (length (now (links .exit)) ≡ linkBytes) ⌝ }
 {
     let mut nodes = [0u8; Entries::SIZE];
     let mut keys = [0u32; Entries::SIZE];

@@ -7,6 +7,7 @@ use native.Mathlib.Omega.{arith}
 use lib.ListN.{length}
 use Rattle.meaning.specs.Limits.{maxTrees}
 use Rattle.meaning.specs.Tree.{Tree}
+use Rattle.meaning.specs.Kind.{either, rooted-only}
 use Rattle.meaning.specs.Interchange.{OneInterchange}
 use Rattle.meaning.specs.Listing.{At, counts, flat}
 use Rattle.meaning.specs.Copies.{firstOf, firstsOf}
@@ -16,17 +17,15 @@ use Rattle.meaning.proofs.Counts.{counts-length, flat-few}
 use Rattle.meaning.proofs.Sums.{map-length}
 use Rattle.meaning.proofs.Lent.{lent-ample}
 use Rattle.lent.proofs.Runs.{sets-start}
-use Rattle.held.specs.Kept.{KeepsAll, KeptAll}
+use Rattle.held.specs.Kept.{KeptAll, KeepsTrees}
 use Rattle.reading.specs.declared.Refusal.{Refusal}
 use Rattle.reading.specs.declared.Step.the-variants.{Next, Refused as StepRefused}
 use Rattle.tables.specs.declared.TableRead.{TableRead}
-use Rattle.links.specs.declared.Link.{Link}
-use Rattle.links.specs.declared.Link.the-variants.{Move}
 use Rattle.links.specs.Links.{OfTrees}
 use Rattle.links.specs.Copies.{choiceOf}
 use Rattle.links.specs.declared.Copies.{Copies}
 use Rattle.graph.specs.Graph.{ListRoom, Graph}
-use Rattle.graph.specs.Copies.{GraphRoom, FirstsGraph, GraphWritten}
+use Rattle.graph.specs.Copies.{MovesRoom, FirstsGraph, MovesWritten}
 use Rattle.graph.specs.Islands.{IslandGraphRoom, IslandsWritten}
 use Rattle.tables.specs.Lent.{TableLent}
 use Rattle.listing_calls.specs.Paper.{graphOutcome, firstsOutcome, islandsOutcome}
@@ -42,8 +41,8 @@ module _ {k n : ℕ} {L : ℕ → ℕ → Type 0} {memory memory′ : GraphMemor
   counts-left = g .in-counts .cells ∙ sets-start (memory .counts) (counts k (g .linked)) (omega (arith, counts-length k (g .linked), few, room .counts-room))
 
 -- and the first positions
-firsts-left : {by : Link} {copies : Copies} {ts : List Tree} {memory memory′ : GraphMemory} {firsts firsts′ : List ℕ} {n : ℕ}
-    → FirstsGraph by copies ts memory memory′ firsts firsts′ n → length ts ≤ maxTrees → maxTrees ≤ length firsts → firsts′ ≡ written (firstsOf ts) firsts
+firsts-left : {R : Tree → Tree → Type 0} {copies : Copies} {ts : List Tree} {memory memory′ : GraphMemory} {firsts firsts′ : List ℕ} {n : ℕ}
+    → FirstsGraph R copies ts memory memory′ firsts firsts′ n → length ts ≤ maxTrees → maxTrees ≤ length firsts → firsts′ ≡ written (firstsOf ts) firsts
 firsts-left {ts} {firsts} g few room = g .in-firsts .cells ∙ sets-start firsts (firstsOf ts) (omega (arith, map-length (firstOf ts) (length ts), few, room))
 
 -- ---- the interchange call
@@ -52,19 +51,19 @@ module _ (s : List ℕ) (memory : GraphMemory) {r : TableRead} (m : TableLent r 
   interchange-refused {x} e = Lists.refuses (x .number) (x .text) (x .place) (lent-refused m e)
 
   module _ {p k : ℕ} (e : r .step ≡ Next p k) where
-    read : Given length (KeepsAll (r .table)) (graphRead s memory) k
+    read : Given (λ ts. length (ts .trees)) (KeepsTrees (r .table)) (graphRead s memory) k
     read = lent-next m e
 
     pub interchange-room : KeptAll (r .table) × ListRoom memory
     interchange-room =
-        let room = lent-ample (graphSlices memory) (tableRead s) (read .is) in
-        (record { trees = read .value; keeps = read .keeps }, record { pairs-room = room .0; counts-room = room .1 })
+        let room = lent-ample (graphSlices memory) (tableRead rooted-only s) (read .is) in
+        (record { trees = read .value .trees; keeps = read .keeps .all }, record { pairs-room = room .0; counts-room = room .1 })
 
     pub interchange-listed : {memory′ : GraphMemory} {n : ℕ} → OfTrees (r .table) (λ ts. Graph (length ts) (At OneInterchange ts) memory memory′ n)
         → InterchangeCall s memory (graphOutcome (Listed k n) (memory′ .pairs) (memory′ .counts))
     interchange-listed w =
-        let g = w (read .value) (read .keeps) in
-        let few = read .keeps .few in
+        let g = w (read .value .trees) (read .keeps .all) in
+        let few = read .keeps .all .few in
         let room = interchange-room .1 in
         subst (InterchangeCall s memory) (same (read .count) (g .many) (pairs-left room few g) (counts-left room few g)) (lists (read .value) (g .linked) (read .is) (g .listing))
       where
@@ -79,19 +78,19 @@ module _ (s : List ℕ) (memory : FirstsMemory) {r : TableRead} (m : TableLent r
   graph-refused copies {x} e = Lists.refuses (x .number) (x .text) (x .place) (lent-refused m e)
 
   module _ {p k : ℕ} (e : r .step ≡ Next p k) where
-    given : Given length (KeepsAll (r .table)) (firstsRead s memory) k
+    given : Given (λ ts. length (ts .trees)) (KeepsTrees (r .table)) (firstsRead s memory) k
     given = lent-next m e
 
-    pub graph-room : GraphRoom (r .table) (memory .graph) (memory .firsts)
+    pub graph-room : MovesRoom (r .table) (memory .graph) (memory .firsts)
     graph-room =
-        let room = lent-ample (firstsSlices memory) (tableRead s) (given .is) in
+        let room = lent-ample (firstsSlices memory) (tableRead either s) (given .is) in
         record { kept = record { trees = given .value; keeps = given .keeps }; room = record { pairs-room = room .0; counts-room = room .1 .0 }; firsts-room = room .1 .1 }
 
-    pub graph-listed : (copies : Copies) {memory′ : GraphMemory} {firsts′ : List ℕ} {n : ℕ} → GraphWritten Move copies (r .table) (memory .graph) memory′ (memory .firsts) firsts′ n
+    pub graph-listed : (copies : Copies) {memory′ : GraphMemory} {firsts′ : List ℕ} {n : ℕ} → MovesWritten copies (r .table) (memory .graph) memory′ (memory .firsts) firsts′ n
         → ChoosingCall (choiceOf copies) s memory (firstsOutcome (Listed k n) (memory′ .pairs) (memory′ .counts) firsts′)
     graph-listed copies w =
         let g = w (given .value) (given .keeps) in
-        let few = given .keeps .few in
+        let few = given .keeps .all .few in
         let room = graph-room .room in
         subst (ChoosingCall (choiceOf copies) s memory)
         (same (given .count) (g .graph .many) (pairs-left room few (g .graph)) (counts-left room few (g .graph)) (firsts-left g few (graph-room .firsts-room)))
@@ -108,12 +107,12 @@ module _ (s : List ℕ) (memory : IslandsMemory) {r : TableRead} (m : TableLent 
   islands-refused {x} e = IslandsCall.refuses (x .number) (x .text) (x .place) (lent-refused m e)
 
   module _ {p k : ℕ} (e : r .step ≡ Next p k) where
-    taken : Given length (KeepsAll (r .table)) (islandsRead s memory) k
+    taken : Given (λ ts. length (ts .trees)) (KeepsTrees (r .table)) (islandsRead s memory) k
     taken = lent-next m e
 
     pub islands-room : IslandGraphRoom (r .table) (memory .lists .graph) (memory .lists .firsts) (memory .islands)
     islands-room =
-        let room = lent-ample (islandsSlices memory) (tableRead s) (taken .is) in
+        let room = lent-ample (islandsSlices memory) (tableRead either s) (taken .is) in
         record {
           graph = record {
             kept = record { trees = taken .value; keeps = taken .keeps };
@@ -128,7 +127,7 @@ module _ (s : List ℕ) (memory : IslandsMemory) {r : TableRead} (m : TableLent 
         → IslandsCall s memory (islandsOutcome (Listed k n) (memory′ .pairs) (memory′ .counts) firsts′ islands′)
     islands-listed {islands′} w =
         let g = w (taken .value) (taken .keeps) in
-        let few = taken .keeps .few in
+        let few = taken .keeps .all .few in
         let room = islands-room .graph .room in
         let graph = g .merged .graph in
         let numbered : islands′ ≡ written (g .numbers) (memory .islands) =

@@ -7,6 +7,7 @@ use links::Copies;
 use links::Link;
 use reading::Refusal;
 use reading::Step;
+use reading::Takes;
 use sheet::Sheet;
 ghost use lib.ListN.{length};
 ghost use Rattle.meaning.specs.Interchange.{OneInterchange};
@@ -45,14 +46,16 @@ fn list_interchanges(pairs: &mut [u16], counts: &mut [u16], table: Table) -> usi
     )
 }
 
-// Interchange call: the pairs that are one interchange apart, i and then j of each, and the neighbour count of each tree.
+// Interchange call: the pairs of rooted trees that are one interchange apart, i and then j of each, and the neighbour count of
+// each tree.
 pub fn interchange_call(s: &[u8], pairs: &mut [u16], counts: &mut [u16]) -> GraphAnswer
     ensures { λ r. ⌜
         InterchangeCall (now (s .entry)) (slices (now (pairs .entry)) (now (counts .entry)))
         (graphOutcome r (now (pairs .exit)) (now (counts .exit))) ⌝ }
 {
     let counts_fit = enough(Table::MAX_TREES, counts.len(), true);
-    let read = tables::read_lent_table(s, enough(Table::PAIR_NUMBERS, pairs.len(), counts_fit));
+    let fits = enough(Table::PAIR_NUMBERS, pairs.len(), counts_fit);
+    let read = tables::read_lent_table(s, fits, Takes::RootedOnly);
     let step = read.step;
     match step {
         Step::Refused(x) => GraphAnswer::Refused(x),
@@ -78,13 +81,14 @@ pub fn graph_call_choosing(
 {
     let firsts_fit = enough(Table::MAX_TREES, firsts.len(), true);
     let counts_fit = enough(Table::MAX_TREES, counts.len(), firsts_fit);
-    let read = tables::read_lent_table(s, enough(Table::PAIR_NUMBERS, pairs.len(), counts_fit));
+    let fits = enough(Table::PAIR_NUMBERS, pairs.len(), counts_fit);
+    let read = tables::read_lent_table(s, fits, Takes::Either);
     let step = read.step;
     match step {
         Step::Refused(x) => GraphAnswer::Refused(x),
         Step::Next(_, count) => GraphAnswer::Listed(
             count,
-            graph::list_pairs(pairs, counts, firsts, read.table, Link::Move, copies),
+            graph::list_moves(pairs, counts, firsts, read.table, copies),
         ),
     }
 }
@@ -118,7 +122,8 @@ pub fn islands_call(
     let islands_fit = enough(Table::MAX_TREES, islands.len(), true);
     let firsts_fit = enough(Table::MAX_TREES, firsts.len(), islands_fit);
     let counts_fit = enough(Table::MAX_TREES, counts.len(), firsts_fit);
-    let read = tables::read_lent_table(s, enough(Table::PAIR_NUMBERS, pairs.len(), counts_fit));
+    let fits = enough(Table::PAIR_NUMBERS, pairs.len(), counts_fit);
+    let read = tables::read_lent_table(s, fits, Takes::Either);
     let step = read.step;
     match step {
         Step::Refused(x) => GraphAnswer::Refused(x),

@@ -3,7 +3,7 @@
 use mathlib.Core.Path.{_≡_, refl, sym, subst}
 use mathlib.Core.Logic.{_↔_, _⊎_, inl, inr}
 use mathlib.Core.Bool.{Bool, true, false, cond, _&&_}
-use mathlib.Core.List.{List, [], List·Memᴰ}
+use mathlib.Core.List.{List, [], _∷_, map, List·Memᴰ}
 use Prim.Native.Nat.{ℕ, zero, suc, _-_, _*_, _≤_, _<_}
 use native.Mathlib.Omega.{arith}
 use borrow.Author.Tests.{ltb-true}
@@ -11,15 +11,16 @@ use lib.Dec.{T, eqb, eqb→eq, eqb-refl, ltb}
 use lib.ListN.{length}
 use Rattle.meaning.specs.Limits.{textBytes}
 use Rattle.meaning.specs.Lists.{any}
-use Rattle.meaning.specs.Tree.{Tree, Distinct, Good, AllGood, SameClade, leaves}
-use Rattle.meaning.specs.Move.{Apart}
+use Rattle.meaning.specs.Tree.{Tree, Distinct, Good, AllGood, leaves}
 use Rattle.meaning.specs.Interchange.{OneInterchange}
 use Rattle.meaning.specs.Reading.{Read, got, refused, readTree, readTable, unlike}
-use Rattle.meaning.specs.Refusals.{treeRefusals, formRefusals, cutRefusals, pairRefusals, tableCallRefusals, sheetRefusals, sheetCallRefusals}
-use Rattle.meaning.specs.Grammar.{OneText, TableText}
+use Rattle.meaning.specs.Kind.{Kind, rooted, Kinded, Trees, asTrees, Takes, either, rooted-only}
+use Rattle.meaning.specs.EitherKind.{ApartAs, apartAs?}
+use Rattle.meaning.specs.Refusals.{oneRefusals, formRefusals, cutRefusals, pairRefusals, tableCallRefusals, sheetRefusals, sheetCallRefusals}
+use Rattle.meaning.specs.Grammar.{OneText, Taken, LikeIt, TableText}
 use Rattle.meaning.specs.Listing.{Pair, Listing, At, treeOf}
 use Rattle.meaning.specs.Loops.{pairsOf}
-use Rattle.meaning.specs.Decide.{apart?, oneInterchange?}
+use Rattle.meaning.specs.Decide.{oneInterchange?}
 use Rattle.meaning.specs.Islands.{uniteAll}
 use Rattle.meaning.specs.Copies.{firstOf, firstsOf, Choice, merged, kept-apart, LinkedBy, MergedIslands}
 use Rattle.meaning.specs.Answer.{Answer, accepted, refusal, Outcome, TableMemory, GraphSize, GraphMemory, FirstsMemory, IslandsMemory, textOf, onward, conclude}
@@ -28,7 +29,7 @@ use Rattle.meaning.specs.Sheet.{refusalLine, Printout, prints, sheet, sh
 use Rattle.meaning.specs.IslandSheet.{islandLines, shows-islands, IslandSheet}
 use Rattle.meaning.proofs.Logic.{clash, cases, T-and}
 use Rattle.meaning.proofs.Lists.{one-of, Among, among}
-use Rattle.meaning.proofs.Decide.{apart-iff}
+use Rattle.meaning.proofs.EitherKind.{apartAs-iff}
 use Rattle.meaning.proofs.Interchanges.{oneInterchange-iff}
 use Rattle.meaning.proofs.Listing.{listing-iff, pairsOf-lists}
 use Rattle.meaning.proofs.MergedIslands.{merged-found}
@@ -89,78 +90,105 @@ more-lines : {A : Type 0} {P : A → Type 0} {lines lines′ s : List ℕ} {a : 
 more-lines t (accepts h) = accepts h
 more-lines t (denies h) = denies (record { number = among t (h .number); text = h .text; place = h .place })
 
+-- what is known of a tree that was read from the text s
+abbrev pub OneTree : Takes → List ℕ → Kinded → Type 0
+OneTree takes s x = Good (x .tree) × OneText x s × Taken takes (x .kind)
+
 -- what reading the one tree of a text tells
-tree-tells : (s : List ℕ) → Tells (λ t. Good t × OneText t s) (Line treeRefusals s) (answered 0 (readTree s))
-tree-tells s = answered-tells 0 (readTree s) (λ t p e. (read-good s t p e, read-iff t s .0 (p, e))) (λ n p e. read-line s (read-refused s n p e))
+tree-tells : (takes : Takes) (s : List ℕ) → Tells (OneTree takes s) (Line (oneRefusals takes) s) (answered 0 (readTree takes s))
+tree-tells takes s =
+    answered-tells 0 (readTree takes s) (λ x p e. let (T, z) = read-iff takes x s .0 (p, e) in (read-good takes s x p e, T, z)) (λ n p e. read-line s (read-refused s takes n p e))
 
 -- the form call
-pub form-tells : (s out : List ℕ) → Tells (λ t. Good t × OneText t s) (Line formRefusals s) (formRead s out)
-form-tells s out = lent-tells (enough (formSlices out)) (at-zero tt) (limited-tells 0 s (at-zero tt) (more-lines tt (tree-tells s)))
+pub form-tells : (s out : List ℕ) → Tells (OneTree either s) (Line formRefusals s) (formRead s out)
+form-tells s out = lent-tells (enough (formSlices out)) (at-zero tt) (limited-tells 0 s (at-zero tt) (more-lines tt (tree-tells either s)))
 
--- the cut call: the cut number is one of the tree's
-has-cut-tells : (s : List ℕ) (c : ℕ) (t : Tree) → Good t × OneText t s → Tells (λ t. Good t × OneText t s × (c < 2 * leaves t - 2)) (Line cutRefusals s) (hasCut c t)
-has-cut-tells s c t h =
-    cases (λ d. Tells (λ t. Good t × OneText t s × (c < 2 * leaves t - 2)) (Line cutRefusals s) (cond d (accepted t) (refusal 9 0 0))) (ltb c (2 * leaves t - 2))
-    (λ e. accepts (h .0, h .1, ltb-true c (2 * leaves t - 2) e)) (λ _. denies (at-zero tt))
+-- the cut call: the tree is rooted, and the cut number is one of the tree's
+pub record CutTree (s : List ℕ) (c : ℕ) (t : Tree) : Type 0 where
+  pub good : Good t
+  pub text : OneText (record { kind = rooted; tree = t }) s
+  pub is-cut : c < 2 * leaves t - 2
 
-pub cut-tells : (s : List ℕ) (c : ℕ) (out : List ℕ) → Tells (λ t. Good t × OneText t s × (c < 2 * leaves t - 2)) (Line cutRefusals s) (cutRead s c out)
+has-cut-tells : (s : List ℕ) (c : ℕ) (t : Tree) → Good t → OneText (record { kind = rooted; tree = t }) s → Tells (CutTree s c) (Line cutRefusals s) (hasCut c t)
+has-cut-tells s c t G T =
+    cases (λ d. Tells (CutTree s c) (Line cutRefusals s) (cond d (accepted t) (refusal 9 0 0))) (ltb c (2 * leaves t - 2))
+    (λ e. accepts (record { good = G; text = T; is-cut = ltb-true c (2 * leaves t - 2) e })) (λ _. denies (at-zero tt))
+
+rooted-text : (s : List ℕ) (x : Kinded) → x .kind ≡ rooted → OneText x s → OneText (record { kind = rooted; tree = x .tree }) s
+rooted-text s x e T = rw (← e) T
+
+pub cut-tells : (s : List ℕ) (c : ℕ) (out : List ℕ) → Tells (CutTree s c) (Line cutRefusals s) (cutRead s c out)
 cut-tells s c out =
     lent-tells (enough (cutSlices out)) (at-zero tt)
-    (limited-tells 0 s (at-zero tt) (onward-tells (hasCut c) (more-lines tt (tree-tells s)) (has-cut-tells s c)))
+    (limited-tells 0 s (at-zero tt) (onward-tells (λ x. hasCut c (x .tree)) (more-lines tt (tree-tells rooted-only s)) (λ x h. has-cut-tells s c (x .tree) (h .0) (rooted-text s x (h .2) (h .1)))))
 
 -- the pair call: a refusal's text is 0 or 1, and its place is in that text
 pub record PairLine (s s′ : List ℕ) (n i p : ℕ) : Type 0 where
   pub number : List·Memᴰ n pairRefusals
   pub place : ((i ≡ 0) × (p ≤ length s)) ⊎ ((i ≡ 1) × (p ≤ length s′))
 
-pub record PairRead (s s′ : List ℕ) (x : (t : Tree) × Tree) : Type 0 where
-  pub good : Good (x .0)
-  pub good′ : Good (x .1)
+pub record PairRead (s s′ : List ℕ) (x : (x : Kinded) × Kinded) : Type 0 where
+  pub good : Good (x .0 .tree)
+  pub good′ : Good (x .1 .tree)
   pub text : OneText (x .0) s
   pub text′ : OneText (x .1) s′
-  pub labels : SameClade (x .0) (x .1)
+  pub like : LikeIt (x .0) (x .1)
 
-beside-tells : (s s′ : List ℕ) (t : Tree) → Good t × OneText t s → Tells (PairRead s s′) (PairLine s s′) (beside t (readTree s′))
-beside-tells s s′ t h = by (readTree s′) refl
+beside-tells : (s s′ : List ℕ) (x : Kinded) → OneTree either s x → Tells (PairRead s s′) (PairLine s s′) (beside x (readTree either s′))
+beside-tells s s′ x h = by (readTree either s′) refl
   where
-    fits : (u : Tree) (p : ℕ) → readTree s′ ≡ got u p → (n : ℕ) → unlike t u ≡ n → Tells (PairRead s s′) (PairLine s s′) (together n t u p)
-    fits u p e zero f = accepts (record { good = h .0; good′ = read-good s′ u p e; text = h .1; text′ = read-iff u s′ .0 (p, e); labels = unlike-iff t u .0 f })
-    fits u p e (suc n) f = denies (record { number = among tt (unlike-line t u f); place = inr (refl, let place : p - 1 ≤ length s′ = omega (arith, read-behind s′ u p e .1) in place) })
+    fits : (y : Kinded) (p : ℕ) → readTree either s′ ≡ got y p → (n : ℕ) → unlike x y ≡ n → Tells (PairRead s s′) (PairLine s s′) (together n x y p)
+    fits y p e zero f = accepts (record { good = h .0; good′ = read-good either s′ y p e; text = h .1; text′ = read-iff either y s′ .0 (p, e) .0; like = unlike-iff x y .0 f })
+    fits y p e (suc n) f =
+        denies (record { number = among tt (unlike-line x y f); place = inr (refl, let place : p - 1 ≤ length s′ = omega (arith, read-behind either s′ y p e .1) in place) })
 
-    by : (r : Read Tree) → readTree s′ ≡ r → Tells (PairRead s s′) (PairLine s s′) (beside t r)
-    by (got u p) e = fits u p e (unlike t u) refl
-    by (refused n p) e = denies (let r = read-refused s′ n p e in record { number = among tt (r .line); place = inr (refl, stands s′ (r .stands)) })
+    by : (r : Read Kinded) → readTree either s′ ≡ r → Tells (PairRead s s′) (PairLine s s′) (beside x r)
+    by (got y p) e = fits y p e (unlike x y) refl
+    by (refused n p) e = denies (let r = read-refused s′ either n p e in record { number = among tt (r .line); place = inr (refl, stands s′ (r .stands)) })
 
 pub pair-tells : (s s′ : List ℕ) → Tells (PairRead s s′) (PairLine s s′) (pairRead s s′)
 pair-tells s s′ =
     limited-tells 0 s (record { number = one-of tt; place = inl (refl, omega arith) })
     (limited-tells 1 s′ (record { number = one-of tt; place = inr (refl, omega arith) })
-    (onward-tells (λ t. beside t (readTree s′))
-    (answered-tells 0 (readTree s) (λ t p e. (read-good s t p e, read-iff t s .0 (p, e)))
-    (λ n p e. let r = read-refused s n p e in record { number = among tt (r .line); place = inl (refl, stands s (r .stands)) }))
+    (onward-tells (λ x. beside x (readTree either s′))
+    (answered-tells 0 (readTree either s) (λ x p e. let (T, z) = read-iff either x s .0 (p, e) in (read-good either s x p e, T, z))
+    (λ n p e. let r = read-refused s either n p e in record { number = among tt (r .line); place = inl (refl, stands s (r .stands)) }))
     (beside-tells s s′)))
 
+-- what is known of a table that was read from the text s
+pub record TableGiven (takes : Takes) (s : List ℕ) (table : Trees) : Type 0 where
+  pub listed : List Kinded
+  pub is : table ≡ asTrees listed
+  pub good : AllGood (table .trees)
+  pub text : TableText takes listed s
+
+as-good : (xs : List Kinded) → AllGood (map (λ (x : Kinded). x .tree) xs) → AllGood (asTrees xs .trees)
+as-good [] g = tt
+as-good (x ∷ xs) g = g
+
 -- reading a table, as the pair lister does: nothing is lent
-pub table-tells : (s : List ℕ) → Tells (λ ts. AllGood ts × TableText ts s) (Line sheetRefusals s) (tableRead s)
-table-tells s =
+pub table-tells : (takes : Takes) (s : List ℕ) → Tells (TableGiven takes s) (Line sheetRefusals s) (tableRead takes s)
+table-tells takes s =
     limited-tells 0 s (at-zero tt)
-    (answered-tells 0 (readTable s) (λ ts p e. (table-good s ts p e, table-iff ts s .0 (p, e))) (λ n p e. read-line s (placed-among tt (table-refused s n p e))))
+    (onward-tells {P′ = λ xs. AllGood (map (λ (x : Kinded). x .tree) xs) × TableText takes xs s} (λ xs. accepted (asTrees xs))
+    (answered-tells 0 (readTable takes s) (λ xs p e. (table-good takes s xs p e, table-iff takes xs s .0 (p, e))) (λ n p e. read-line s (placed-among tt (table-refused s takes n p e))))
+    (λ xs h. accepts (record { listed = xs; is = refl; good = as-good xs (h .0); text = h .1 })))
 
 -- the calls that read a table and are lent memory
-pub lent-table-tells : (b : Bool) (s : List ℕ) → Tells (λ ts. AllGood ts × TableText ts s) (Line tableCallRefusals s) (lent b (tableRead s))
-lent-table-tells b s = lent-tells b (at-zero tt) (more-lines tt (table-tells s))
+pub lent-table-tells : (takes : Takes) (b : Bool) (s : List ℕ) → Tells (TableGiven takes s) (Line tableCallRefusals s) (lent b (tableRead takes s))
+lent-table-tells takes b s = lent-tells b (at-zero tt) (more-lines tt (table-tells takes s))
 
-pub table-call-tells : (s : List ℕ) (memory : TableMemory) → Tells (λ ts. AllGood ts × TableText ts s) (Line tableCallRefusals s) (tableCallRead s memory)
-table-call-tells s memory = lent-table-tells (enough (tableSlices memory)) s
+pub table-call-tells : (s : List ℕ) (memory : TableMemory) → Tells (TableGiven either s) (Line tableCallRefusals s) (tableCallRead s memory)
+table-call-tells s memory = lent-table-tells either (enough (tableSlices memory)) s
 
-pub graph-tells : (s : List ℕ) (memory : GraphMemory) → Tells (λ ts. AllGood ts × TableText ts s) (Line tableCallRefusals s) (graphRead s memory)
-graph-tells s memory = lent-table-tells (enough (graphSlices memory)) s
+pub graph-tells : (s : List ℕ) (memory : GraphMemory) → Tells (TableGiven rooted-only s) (Line tableCallRefusals s) (graphRead s memory)
+graph-tells s memory = lent-table-tells rooted-only (enough (graphSlices memory)) s
 
-pub firsts-tells : (s : List ℕ) (memory : FirstsMemory) → Tells (λ ts. AllGood ts × TableText ts s) (Line tableCallRefusals s) (firstsRead s memory)
-firsts-tells s memory = lent-table-tells (enough (firstsSlices memory)) s
+pub firsts-tells : (s : List ℕ) (memory : FirstsMemory) → Tells (TableGiven either s) (Line tableCallRefusals s) (firstsRead s memory)
+firsts-tells s memory = lent-table-tells either (enough (firstsSlices memory)) s
 
-pub islands-tells : (s : List ℕ) (memory : IslandsMemory) → Tells (λ ts. AllGood ts × TableText ts s) (Line tableCallRefusals s) (islandsRead s memory)
-islands-tells s memory = lent-table-tells (enough (islandsSlices memory)) s
+pub islands-tells : (s : List ℕ) (memory : IslandsMemory) → Tells (TableGiven either s) (Line tableCallRefusals s) (islandsRead s memory)
+islands-tells s memory = lent-table-tells either (enough (islandsSlices memory)) s
 
 -- the sheet call: what is printed; or line 7, of text 0 at place 0, as of a text without bytes
 pub sheet-call-tells : (x out : List ℕ) → Tells (λ y. y ≡ x) (Line sheetCallRefusals []) (sheetGiven x out)
@@ -170,15 +198,15 @@ sheet-call-tells x out = lent-tells (enough (sheetSlices out)) (at-zero tt) (acc
 pub pair-exists : (s s′ : List ℕ) → (a : Answer Bool) × PairCall s s′ a
 pair-exists s s′ = by (pairRead s s′) refl
   where
-    decided : (t u : Tree) → pairRead s s′ ≡ accepted (t, u) → (d : Bool) → apart? t u ≡ d → (a : Answer Bool) × PairCall s s′ a
-    decided t u e d f = let r = tells-accepted (pair-tells s s′) e in let i = apart-iff t u (r .good .distinct) (r .good′ .distinct) in yes-or-no d f i
+    decided : (x y : Kinded) → pairRead s s′ ≡ accepted (x, y) → (d : Bool) → apartAs? (x .kind) (x .tree) (y .tree) ≡ d → (a : Answer Bool) × PairCall s s′ a
+    decided x y e d f = let r = tells-accepted (pair-tells s s′) e in yes-or-no d f (apartAs-iff (x .kind) (x .tree) (y .tree) (r .good .distinct) (r .good′ .distinct))
       where
-        yes-or-no : (d : Bool) → apart? t u ≡ d → T (apart? t u) ↔ Apart t u → (a : Answer Bool) × PairCall s s′ a
-        yes-or-no true f i = (accepted true, is-apart t u e (i .0 (subst T (sym f) tt)))
-        yes-or-no false f i = (accepted false, not-apart t u e (λ a. subst T f (i .1 a)))
+        yes-or-no : (d : Bool) → apartAs? (x .kind) (x .tree) (y .tree) ≡ d → T (apartAs? (x .kind) (x .tree) (y .tree)) ↔ ApartAs (x .kind) (x .tree) (y .tree) → (a : Answer Bool) × PairCall s s′ a
+        yes-or-no true f i = (accepted true, is-apart x y e (i .0 (subst T (sym f) tt)))
+        yes-or-no false f i = (accepted false, not-apart x y e (λ a. subst T f (i .1 a)))
 
-    by : (a : Answer ((t : Tree) × Tree)) → pairRead s s′ ≡ a → (a : Answer Bool) × PairCall s s′ a
-    by (accepted x) e = decided (x .0) (x .1) e (apart? (x .0) (x .1)) refl
+    by : (a : Answer ((x : Kinded) × Kinded)) → pairRead s s′ ≡ a → (a : Answer Bool) × PairCall s s′ a
+    by (accepted x) e = decided (x .0) (x .1) e (apartAs? (x .0 .kind) (x .0 .tree) (x .1 .tree)) refl
     by (refusal n i p) e = (refusal n i p, PairCall.refuses n i p e)
 
 -- the pairs of a table that pass a test
@@ -198,49 +226,52 @@ module _ (R : Tree → Tree → Type 0) (test : Tree → Tree → Bool) (decides
   listed-by ts g = listing-by ts (all-distinct ts g)
 
 -- the pairs that are one move apart, with copies merged or kept apart
-abbrev chosenTest : Choice → List Tree → ℕ → ℕ → Bool
-chosenTest merged ts i j = eqb (firstOf ts i) i && (eqb (firstOf ts j) j && apart? (treeOf ts i) (treeOf ts j))
-chosenTest kept-apart ts i j = apart? (treeOf ts i) (treeOf ts j)
+abbrev chosenTest : Kind → Choice → List Tree → ℕ → ℕ → Bool
+chosenTest k merged ts i j = eqb (firstOf ts i) i && (eqb (firstOf ts j) j && apartAs? k (treeOf ts i) (treeOf ts j))
+chosenTest k kept-apart ts i j = apartAs? k (treeOf ts i) (treeOf ts j)
 
-abbrev pub pairsChosen : Choice → List Tree → List Pair
-pairsChosen choice ts = pairsOf (length ts) (chosenTest choice ts)
+abbrev pub pairsChosen : Kind → Choice → List Tree → List Pair
+pairsChosen k choice ts = pairsOf (length ts) (chosenTest k choice ts)
 
 -- the pairs that are one move apart
-abbrev pub pairsIn : List Tree → List Pair
-pairsIn = pairsBy apart?
+abbrev pub pairsIn : Kind → List Tree → List Pair
+pairsIn k ts = pairsBy (apartAs? k) ts
 
-pub chosen-listed : (choice : Choice) (ts : List Tree) → ((i : ℕ) → i < length ts → Distinct (treeOf ts i)) → Listing (length ts) (LinkedBy choice Apart ts) (pairsChosen choice ts)
-chosen-listed merged ts D = listing-iff (λ i j h l. merged-test i j (apart-iff (treeOf ts i) (treeOf ts j) (D i (omega arith)) (D j l))) (pairsOf-lists (length ts) (chosenTest merged ts))
+pub chosen-listed : (k : Kind) (choice : Choice) (ts : List Tree) → ((i : ℕ) → i < length ts → Distinct (treeOf ts i)) → Listing (length ts) (LinkedBy choice (ApartAs k) ts) (pairsChosen k choice ts)
+chosen-listed k merged ts D = listing-iff (λ i j h l. merged-test i j (apartAs-iff k (treeOf ts i) (treeOf ts j) (D i (omega arith)) (D j l))) (pairsOf-lists (length ts) (chosenTest k merged ts))
   where
     eqb-iff : (m n : ℕ) → T (eqb m n) ↔ (m ≡ n)
     eqb-iff m n = (eqb→eq m n, λ e. subst (λ (x : ℕ). T (eqb m x)) e (eqb-refl m))
 
-    merged-test : (i j : ℕ) → T (apart? (treeOf ts i) (treeOf ts j)) ↔ Apart (treeOf ts i) (treeOf ts j) → T (chosenTest merged ts i j) ↔ LinkedBy merged Apart ts i j
+    merged-test : (i j : ℕ) → T (apartAs? k (treeOf ts i) (treeOf ts j)) ↔ ApartAs k (treeOf ts i) (treeOf ts j) → T (chosenTest k merged ts i j) ↔ LinkedBy merged (ApartAs k) ts i j
     merged-test i j A = (
       λ t.
-          let (x, rest) = T-and (eqb (firstOf ts i) i) (eqb (firstOf ts j) j && apart? (treeOf ts i) (treeOf ts j)) .0 t in
-          let (y, z) = T-and (eqb (firstOf ts j) j) (apart? (treeOf ts i) (treeOf ts j)) .0 rest in
+          let (x, rest) = T-and (eqb (firstOf ts i) i) (eqb (firstOf ts j) j && apartAs? k (treeOf ts i) (treeOf ts j)) .0 t in
+          let (y, z) = T-and (eqb (firstOf ts j) j) (apartAs? k (treeOf ts i) (treeOf ts j)) .0 rest in
           (eqb-iff (firstOf ts i) i .0 x, eqb-iff (firstOf ts j) j .0 y, A .0 z),
       λ x.
-          T-and (eqb (firstOf ts i) i) (eqb (firstOf ts j) j && apart? (treeOf ts i) (treeOf ts j)) .1 (
+          T-and (eqb (firstOf ts i) i) (eqb (firstOf ts j) j && apartAs? k (treeOf ts i) (treeOf ts j)) .1 (
             eqb-iff (firstOf ts i) i .1 (x .0),
-            T-and (eqb (firstOf ts j) j) (apart? (treeOf ts i) (treeOf ts j)) .1 (eqb-iff (firstOf ts j) j .1 (x .1), A .1 (x .2)),
+            T-and (eqb (firstOf ts j) j) (apartAs? k (treeOf ts i) (treeOf ts j)) .1 (eqb-iff (firstOf ts j) j .1 (x .1), A .1 (x .2)),
           ),
     )
-chosen-listed kept-apart ts D = listing-by Apart apart? apart-iff ts D
+chosen-listed k kept-apart ts D = listing-by (ApartAs k) (apartAs? k) (apartAs-iff k) ts D
 
 -- a call that lists pairs has an outcome, where good trees have a listing
-lists-exists : {M : Type 0} {read : Answer (List Tree)} {Linked : List Tree → ℕ → ℕ → Type 0} (left : List Tree → List Pair → Outcome GraphSize M) (memory : M)
-    → ((ts : List Tree) → read ≡ accepted ts → (ps : List Pair) × Listing (length ts) (Linked ts) ps) → (o : Outcome GraphSize M) × Lists read Linked left memory o
+lists-exists : {M : Type 0} {read : Answer Trees} {Linked : Trees → ℕ → ℕ → Type 0} (left : List Tree → List Pair → Outcome GraphSize M) (memory : M)
+    → ((table : Trees) → read ≡ accepted table → (ps : List Pair) × Listing (length (table .trees)) (Linked table) ps) → (o : Outcome GraphSize M) × Lists read Linked left memory o
 lists-exists {M} {read} {Linked} left memory some = by read refl
   where
-    by : (a : Answer (List Tree)) → read ≡ a → (o : Outcome GraphSize M) × Lists read Linked left memory o
-    by (accepted ts) e = let (ps, L) = some ts e in (left ts ps, lists ts ps e L)
+    by : (a : Answer Trees) → read ≡ a → (o : Outcome GraphSize M) × Lists read Linked left memory o
+    by (accepted table) e = let (ps, L) = some table e in (left (table .trees) ps, lists table ps e L)
     by (refusal n i p) e = (record { answer = refusal n i p; memory = memory }, Lists.refuses n i p e)
 
 pub choosing-exists : (choice : Choice) (s : List ℕ) (memory : FirstsMemory) → (o : Outcome GraphSize FirstsMemory) × ChoosingCall choice s memory o
 choosing-exists choice s memory =
-    lists-exists (λ ts ps. firstsGraphOf ts ps memory) memory (λ ts e. (pairsChosen choice ts, chosen-listed choice ts (all-distinct ts (tells-accepted (firsts-tells s memory) e .0))))
+    lists-exists (λ ts ps. firstsGraphOf ts ps memory) memory (λ table e. (
+      pairsChosen (table .kind) choice (table .trees),
+      chosen-listed (table .kind) choice (table .trees) (all-distinct (table .trees) (tells-accepted (firsts-tells s memory) e .good)),
+    ))
 
 pub graph-exists : (s : List ℕ) (memory : FirstsMemory) → (o : Outcome GraphSize FirstsMemory) × GraphCall s memory o
 graph-exists = choosing-exists merged
@@ -248,37 +279,46 @@ graph-exists = choosing-exists merged
 pub interchange-exists : (s : List ℕ) (memory : GraphMemory) → (o : Outcome GraphSize GraphMemory) × InterchangeCall s memory o
 interchange-exists s memory =
     lists-exists (λ ts ps. graphOf ts ps memory) memory
-    (λ ts e. (pairsBy oneInterchange? ts, listed-by OneInterchange oneInterchange? oneInterchange-iff ts (tells-accepted (graph-tells s memory) e .0)))
+    (λ table e. (pairsBy oneInterchange? (table .trees), listed-by OneInterchange oneInterchange? oneInterchange-iff (table .trees) (tells-accepted (graph-tells s memory) e .good)))
 
 -- the islands of the merged pairs
-abbrev islandsIn : List Tree → List ℕ
-islandsIn ts = uniteAll (firstsOf ts) (pairsChosen merged ts)
+abbrev islandsIn : Trees → List ℕ
+islandsIn table = uniteAll (firstsOf (table .trees)) (pairsChosen (table .kind) merged (table .trees))
 
-islands-in : (ts : List Tree) → AllGood ts → Listing (length ts) (LinkedBy merged Apart ts) (pairsChosen merged ts) × MergedIslands ts (pairsChosen merged ts) (islandsIn ts)
-islands-in ts g = let L = chosen-listed merged ts (all-distinct ts g) in (L, merged-found ts Apart L)
+islands-in : (table : Trees) → AllGood (table .trees) → let ts = table .trees in let ps = pairsChosen (table .kind) merged ts in
+    Listing (length ts) (LinkedBy merged (ApartAs (table .kind)) ts) ps × MergedIslands ts ps (islandsIn table)
+islands-in table g =
+    let L = chosen-listed (table .kind) merged (table .trees) (all-distinct (table .trees) g) in
+    (L, merged-found (table .trees) (ApartAs (table .kind)) L)
 
 pub islands-exists : (s : List ℕ) (memory : IslandsMemory) → (o : Outcome GraphSize IslandsMemory) × IslandsCall s memory o
 islands-exists s memory = by (islandsRead s memory) refl
   where
-    by : (a : Answer (List Tree)) → islandsRead s memory ≡ a → (o : Outcome GraphSize IslandsMemory) × IslandsCall s memory o
-    by (accepted ts) e =
-        let (L, I) = islands-in ts (tells-accepted (islands-tells s memory) e .0) in
-        (islandGraphOf ts (pairsChosen merged ts) (islandsIn ts) memory, numbers ts (pairsChosen merged ts) (islandsIn ts) e L I)
+    by : (a : Answer Trees) → islandsRead s memory ≡ a → (o : Outcome GraphSize IslandsMemory) × IslandsCall s memory o
+    by (accepted table) e =
+        let (L, I) = islands-in table (tells-accepted (islands-tells s memory) e .good) in
+        let ps = pairsChosen (table .kind) merged (table .trees) in
+        (islandGraphOf (table .trees) ps (islandsIn table) memory, numbers table ps (islandsIn table) e L I)
     by (refusal n i p) e = (record { answer = refusal n i p; memory = memory }, IslandsCall.refuses n i p e)
 
 -- a program prints something for every text, where it does for good trees
-printout-exists : {Prints : List Tree → List ℕ → Type 0} → ((ts : List Tree) → AllGood ts → (x : List ℕ) × Prints ts x) → (s : List ℕ) → (x : List ℕ) × Printout Prints s x
-printout-exists {Prints} some s = by (tableRead s) refl
+printout-exists : {Prints : Trees → List ℕ → Type 0} → ((table : Trees) → AllGood (table .trees) → (x : List ℕ) × Prints table x) → (s : List ℕ) → (x : List ℕ) × Printout Prints s x
+printout-exists {Prints} some s = by (tableRead either s) refl
   where
-    by : (a : Answer (List Tree)) → tableRead s ≡ a → (x : List ℕ) × Printout Prints s x
-    by (accepted ts) e = let (x, P) = some ts (tells-accepted (table-tells s) e .0) in (x, prints ts x e P)
+    by : (a : Answer Trees) → tableRead either s ≡ a → (x : List ℕ) × Printout Prints s x
+    by (accepted table) e = let (x, P) = some table (tells-accepted (table-tells either s) e .good) in (x, prints table x e P)
     by (refusal n i p) e = (refusalLine n p, Printout.refuses n i p e)
 
 pub sheet-exists : (s : List ℕ) → (x : List ℕ) × Sheet s x
-sheet-exists = printout-exists (λ ts g. (sheet ts (pairsIn ts), shows-pairs (pairsIn ts) (listed-by Apart apart? apart-iff ts g)))
+sheet-exists = printout-exists (λ table g.
+    let k = table .kind in
+    let ps = pairsIn k (table .trees) in
+    (sheet table ps, shows-pairs ps (listed-by (ApartAs k) (apartAs? k) (apartAs-iff k) (table .trees) g)))
 
 pub island-sheet-exists : (s : List ℕ) → (x : List ℕ) × IslandSheet s x
-island-sheet-exists = printout-exists (λ ts g. let (L, I) = islands-in ts g in (islandLines (islandsIn ts), shows-islands (pairsChosen merged ts) (islandsIn ts) L I))
+island-sheet-exists = printout-exists (λ table g.
+    let (L, I) = islands-in table g in
+    (islandLines (islandsIn table), shows-islands (pairsChosen (table .kind) merged (table .trees)) (islandsIn table) L I))
 
 pub sheet-call-exists : (s out : List ℕ) → (o : Outcome ℕ (List ℕ)) × SheetCall s out o
 sheet-call-exists s out = let (x, h) = sheet-exists s in (conclude (sheetGiven x out) out (λ y. textOf y out), gives x h)

@@ -6,7 +6,8 @@ use mathlib.Core.List.{List}
 use Prim.Native.Nat.{ℕ}
 use lib.ListN.{length}
 use Rattle.meaning.specs.Tree.{Tree}
-use Rattle.meaning.specs.Move.{Apart}
+use Rattle.meaning.specs.Kind.{Kinded, Trees}
+use Rattle.meaning.specs.EitherKind.{ApartAs}
 use Rattle.meaning.specs.Listing.{Pair, Listing}
 use Rattle.meaning.specs.Copies.{merged, LinkedBy, MergedIslands}
 use Rattle.meaning.specs.Answer.{Answer, accepted, refusal, Outcome, TableSize, TableMemory, GraphSize, IslandsMemory, textOf, conclude}
@@ -37,8 +38,11 @@ pub same-refusal : {A : Type 0} {a : Answer A} {n i p m j q : ℕ} → a ≡ ref
 same-refusal e f = (cc, cc, cc)
 
 -- two trees are not both apart and not
-apart-and-not : {a : Answer ((t : Tree) × Tree)} {x y : (t : Tree) × Tree} → a ≡ accepted x → a ≡ accepted y → Apart (x .0) (x .1) → ¬ Apart (y .0) (y .1) → ⊥
-apart-and-not e f h k = k (subst (λ (z : (t : Tree) × Tree). Apart (z .0) (z .1)) (same-accepted e f) h)
+abbrev ApartPair : (x : Kinded) × Kinded → Type 0
+ApartPair x = ApartAs (x .0 .kind) (x .0 .tree) (x .1 .tree)
+
+apart-and-not : {a : Answer ((x : Kinded) × Kinded)} {x y : (x : Kinded) × Kinded} → a ≡ accepted x → a ≡ accepted y → ApartPair x → ¬ ApartPair y → ⊥
+apart-and-not e f h k = k (subst ApartPair (same-accepted e f) h)
 
 pub pair-determined : {s s′ : List ℕ} {a b : Answer Bool} → PairCall s s′ a → PairCall s s′ b → a ≡ b
 pair-determined (is-apart t u e h) (is-apart t′ u′ e′ h′) = refl
@@ -52,50 +56,54 @@ pair-determined (PairCall.refuses n i p e) (not-apart t′ u′ e′ h′) = abs
 pair-determined (PairCall.refuses n i p e) (PairCall.refuses n′ i′ p′ e′) = let (x, y, z) = same-refusal e e′ in cc
 
 -- one table has one listing
-same-listing : (Linked : List Tree → ℕ → ℕ → Type 0) {a : Answer (List Tree)} {ts us : List Tree} {ps qs : List Pair} → a ≡ accepted ts → a ≡ accepted us
-    → Listing (length ts) (Linked ts) ps → Listing (length us) (Linked us) qs → (ts ≡ us) × (ps ≡ qs)
+same-listing : (Linked : Trees → ℕ → ℕ → Type 0) {a : Answer Trees} {t u : Trees} {ps qs : List Pair} → a ≡ accepted t → a ≡ accepted u
+    → Listing (length (t .trees)) (Linked t) ps → Listing (length (u .trees)) (Linked u) qs → (t ≡ u) × (ps ≡ qs)
 same-listing Linked {ps} e f L M =
     let h = same-accepted e f in
-    (h, listing-unique (subst (λ (vs : List Tree). Listing (length vs) (Linked vs) ps) h L) M)
+    (h, listing-unique (subst (λ (v : Trees). Listing (length (v .trees)) (Linked v) ps) h L) M)
 
 -- the interchange call and the graph call with either choice
-pub lists-determined : {M : Type 0} {read : Answer (List Tree)} {Linked : List Tree → ℕ → ℕ → Type 0} {left : List Tree → List Pair → Outcome GraphSize M} {memory : M} {o o′ : Outcome GraphSize M}
+pub lists-determined : {M : Type 0} {read : Answer Trees} {Linked : Trees → ℕ → ℕ → Type 0} {left : List Tree → List Pair → Outcome GraphSize M} {memory : M} {o o′ : Outcome GraphSize M}
     → Lists read Linked left memory o → Lists read Linked left memory o′ → o ≡ o′
-lists-determined {Linked} {left} (lists ts ps e L) (lists ts′ ps′ e′ L′) = let (h, k) = same-listing Linked e e′ L L′ in ap₂ left h k
-lists-determined (lists ts ps e L) (Lists.refuses n i p e′) = absurd (not-both e e′)
-lists-determined (Lists.refuses n i p e) (lists ts ps e′ L) = absurd (not-both e′ e)
+lists-determined {Linked} {left} (lists t ps e L) (lists t′ ps′ e′ L′) = let (h, k) = same-listing Linked e e′ L L′ in ap₂ (λ (v : Trees) (qs : List Pair). left (v .trees) qs) h k
+lists-determined (lists t ps e L) (Lists.refuses n i p e′) = absurd (not-both e e′)
+lists-determined (Lists.refuses n i p e) (lists t ps e′ L) = absurd (not-both e′ e)
 lists-determined (Lists.refuses n i p e) (Lists.refuses n′ i′ p′ e′) = let (x, y, z) = same-refusal e e′ in cc
 
+-- the merged pairs that are one move apart
+abbrev MergedApart : Trees → ℕ → ℕ → Type 0
+MergedApart t = LinkedBy merged (ApartAs (t .kind)) (t .trees)
+
 -- and its positions have one number each
-same-islands : {a : Answer (List Tree)} {ts us : List Tree} {ps qs : List Pair} {ms ns : List ℕ} → a ≡ accepted ts → a ≡ accepted us
-    → Listing (length ts) (LinkedBy merged Apart ts) ps → Listing (length us) (LinkedBy merged Apart us) qs → MergedIslands ts ps ms → MergedIslands us qs ns → ms ≡ ns
+same-islands : {a : Answer Trees} {t u : Trees} {ps qs : List Pair} {ms ns : List ℕ} → a ≡ accepted t → a ≡ accepted u
+    → Listing (length (t .trees)) (MergedApart t) ps → Listing (length (u .trees)) (MergedApart u) qs → MergedIslands (t .trees) ps ms → MergedIslands (u .trees) qs ns → ms ≡ ns
 same-islands {ms} e f L M I K =
-    let (h, k) = same-listing (LinkedBy merged Apart) e f L M in
-    merged-unique (subst₂ (λ (vs : List Tree) (rs : List Pair). MergedIslands vs rs ms) h k I) K
+    let (h, k) = same-listing MergedApart e f L M in
+    merged-unique (subst₂ (λ (v : Trees) (rs : List Pair). MergedIslands (v .trees) rs ms) h k I) K
 
 pub islands-determined : {s : List ℕ} {memory : IslandsMemory} {o o′ : Outcome GraphSize IslandsMemory} → IslandsCall s memory o → IslandsCall s memory o′ → o ≡ o′
-islands-determined {memory} (numbers ts ps ms e L I) (numbers ts′ ps′ ms′ e′ L′ I′) =
-    let (h, k) = same-listing (LinkedBy merged Apart) e e′ L L′ in
-    ap₂ (λ (vs : List Tree) (qs : List Pair). islandGraphOf vs qs ms memory) h k ∙ ap (λ (ns : List ℕ). islandGraphOf ts′ ps′ ns memory) (same-islands e e′ L L′ I I′)
-islands-determined (numbers ts ps ms e L I) (IslandsCall.refuses n i p e′) = absurd (not-both e e′)
-islands-determined (IslandsCall.refuses n i p e) (numbers ts ps ms e′ L I) = absurd (not-both e′ e)
+islands-determined {memory} (numbers t ps ms e L I) (numbers t′ ps′ ms′ e′ L′ I′) =
+    let (h, k) = same-listing MergedApart e e′ L L′ in
+    ap₂ (λ (v : Trees) (qs : List Pair). islandGraphOf (v .trees) qs ms memory) h k ∙ ap (λ (ns : List ℕ). islandGraphOf (t′ .trees) ps′ ns memory) (same-islands e e′ L L′ I I′)
+islands-determined (numbers t ps ms e L I) (IslandsCall.refuses n i p e′) = absurd (not-both e e′)
+islands-determined (IslandsCall.refuses n i p e) (numbers t ps ms e′ L I) = absurd (not-both e′ e)
 islands-determined (IslandsCall.refuses n i p e) (IslandsCall.refuses n′ i′ p′ e′) = let (x, y, z) = same-refusal e e′ in cc
 
 -- what is printed for a text is one, where what is printed for trees is
-module _ {Prints : List Tree → List ℕ → Type 0} (one : (ts : List Tree) (x y : List ℕ) → Prints ts x → Prints ts y → x ≡ y) where
+module _ {Prints : Trees → List ℕ → Type 0} (one : (t : Trees) (x y : List ℕ) → Prints t x → Prints t y → x ≡ y) where
   printout-determined : {s x y : List ℕ} → Printout Prints s x → Printout Prints s y → x ≡ y
-  printout-determined (prints ts x e P) (prints us y f Q) = one us x y (subst (λ (vs : List Tree). Prints vs x) (same-accepted e f) P) Q
+  printout-determined (prints ts x e P) (prints us y f Q) = one us x y (subst (λ (v : Trees). Prints v x) (same-accepted e f) P) Q
   printout-determined (prints ts x e P) (Printout.refuses n i p f) = absurd (not-both e f)
   printout-determined (Printout.refuses n i p e) (prints us y f Q) = absurd (not-both f e)
   printout-determined (Printout.refuses n i p e) (Printout.refuses m j q f) = let (x, y, z) = same-refusal e f in ap₂ refusalLine x z
 
-sheet-one : (ts : List Tree) (x y : List ℕ) → SheetOf ts x → SheetOf ts y → x ≡ y
+sheet-one : (ts : Trees) (x y : List ℕ) → SheetOf ts x → SheetOf ts y → x ≡ y
 sheet-one ts x y (shows-pairs ps L) (shows-pairs qs M) = ap (sheet ts) (listing-unique L M)
 
 pub sheet-determined : {s x y : List ℕ} → Sheet s x → Sheet s y → x ≡ y
 sheet-determined h k = printout-determined sheet-one h k
 
-island-sheet-one : (ts : List Tree) (x y : List ℕ) → IslandSheetOf ts x → IslandSheetOf ts y → x ≡ y
+island-sheet-one : (ts : Trees) (x y : List ℕ) → IslandSheetOf ts x → IslandSheetOf ts y → x ≡ y
 island-sheet-one ts x y (shows-islands ps ms L I) (shows-islands qs ns M J) =
     let e : accepted ts ≡ accepted ts = refl in
     ap islandLines (same-islands e e L M I J)

@@ -1,19 +1,24 @@
--- What is written is read back: a form gives its canonical tree, and the forms of many trees give theirs.
+-- What is written is read back, for either kind: a canonical text gives its canonical form, and the texts of many trees give theirs.
 -- Assumes nothing.
-use mathlib.Core.Path.{_≡_}
+use mathlib.Core.Path.{_≡_, refl, subst}
 use mathlib.Core.Bool.{true}
 use mathlib.Core.List.{List, [], _∷_, map, append-assoc, append-nil}
-use Prim.Native.Nat.{ℕ, suc, _+_, _/_, _%_, _≤_}
+use Prim.Native.Nat.{ℕ, suc, _+_, _/_, _%_, _≤_, _<_, max}
 use native.Mathlib.Decide.{decLe}
 use native.Mathlib.Omega.{arith}
 use borrow.Author.Tests.{le-leb}
 use lib.ListN.{length, length-map}
 use Rattle.meaning.specs.Limits.{maxLabel, maxOpen, maxTrees}
-use Rattle.meaning.specs.Tree.{Tree, leaf, fork, leaves, In, tip, Small, Good, AllGood, _⊆_, canon, digits, write, form, forms}
+use Rattle.meaning.specs.Tree.{Tree, leaf, fork, leaves, In, tip, Distinct, Small, Good, AllGood, Canonical, SameClade, least, canon, digits, write}
+use Rattle.meaning.specs.Kind.{Kind, rooted, unrooted, Takes}
+use Rattle.meaning.specs.Unrooted.{hang, canonU, writeU}
+use Rattle.meaning.specs.EitherKind.{canonAs, formAs, formsAs, canonKinded}
+use Rattle.meaning.specs.Listing.{treeOf}
 use Rattle.meaning.specs.Reading.{got, isDigit, valueAfter, readTree, readTable}
-use Rattle.meaning.specs.Grammar.{All, TokenText, behind, LabelRun, NodeText, is-label, is-fork, depth, TreeText, is-tree, TreesText, none, more, Alike, AllAlike}
-use Rattle.meaning.proofs.Canon.{canon-≈, canon-in, canon-good}
-use Rattle.meaning.proofs.Same.{≈-sym, ≈-in}
+use Rattle.meaning.specs.Grammar.{All, TokenText, behind, LabelRun, NodeText, is-label, is-fork, depth, no-mark, marked-unrooted, TopText, is-node, one-label, two-labels, three-nodes, TreeText, is-tree, TreesText, none, more, Taken, Alike, AllAlike}
+use Rattle.meaning.proofs.Canon.{canon-≈, canon-good}
+use Rattle.meaning.proofs.Same.{≈-clade, clade-trans}
+use Rattle.meaning.proofs.Rootings.{Hung, hung, canonU-hung, canonU-canonical, canonU-good, canonU-splits}
 use Rattle.meaning.proofs.Digits.{digits-one, digits-two}
 use Rattle.meaning.proofs.Length.{leaves-64}
 use Rattle.meaning.proofs.Complete.{read-complete}
@@ -52,7 +57,7 @@ digits-run n l h = by (decLe n 9)
     by (no k) = rw (digits-two n (omega arith) (omega arith)) (run-two n (omega arith) h)
 
 -- a token is written without blanks
-token-written : (b : ℕ) → TokenText b (b ∷ [])
+pub token-written : (b : ℕ) → TokenText b (b ∷ [])
 unfolding All
 token-written b = behind [] tt
 
@@ -72,35 +77,76 @@ depth-leaves (fork a b) = omega (arith, depth-leaves a, depth-leaves b)
 pub depth-63 : {t : Tree} → Good t → depth t ≤ maxOpen
 depth-63 {t} G = omega (arith, depth-leaves t, leaves-64 G)
 
--- a form is a text of the canonical tree
-pub form-text : {t : Tree} → Good t → TreeText (canon t) (form t)
-form-text {t} G = let H = canon-good G in is-tree (write-text (canon t) (H .small)) (token-written 59) H (depth-63 H)
+-- ---- trees of either kind
+-- a canonical form stands for itself
+stands-itself : (t : Tree) → Distinct t → hang (canonU t) ≡ canonU t
+stands-itself (leaf n) D = refl
+stands-itself (fork a b) D = go (canonU (fork a b)) (canonU-hung a b D) (canonU-canonical (fork a b) D)
+  where
+    go : {m : ℕ} (u : Tree) → Hung m u → Canonical u → hang u ≡ u
+    go {m} u (hung r) C = rw (le-leb m (least r) (omega (arith, C .2)))
 
--- a form is read back
-pub read-form : {t : Tree} → Good t → readTree (form t) ≡ got (canon t) (length (form t))
+-- brackets below the top
+shallow : (m : ℕ) (a b : Tree) → Good (fork (leaf m) (fork a b)) → max (depth (leaf m)) (max (depth a) (depth b)) < maxOpen
+unfolding depth
+shallow m a b G = omega (arith, depth-leaves a, depth-leaves b, leaves-64 G)
+
+-- what is written for a hung tree is an unrooted text of it
+hung-text : {m : ℕ} {t : Tree} → Hung m t → Good t → TopText unrooted t (writeU t)
+hung-text {m} (hung (leaf n)) G = two-labels (write-text (fork (leaf m) (leaf n)) (G .small))
+hung-text {m} (hung (fork a b)) G =
+    let S = G .small in
+    simp append-assoc
+    (three-nodes (token-written 40) (write-text (leaf m) (λ l i. S l (In.first i))) (token-written 44) (write-text a (λ l i. S l (In.second (In.first i)))) (token-written 44)
+    (write-text b (λ l i. S l (In.second (In.second i)))) (token-written 41) (shallow m a b G))
+
+top-text : (t : Tree) → Good t → TopText unrooted (canonU t) (writeU (canonU t))
+top-text (leaf n) G = one-label (write-text (leaf n) (G .small))
+top-text (fork a b) G = hung-text (canonU-hung a b (G .distinct)) (canonU-good G)
+
+-- a canonical text is a text of the canonical form
+pub form-text : (k : Kind) {t : Tree} → Good t → TreeText (canonKinded k t) (formAs k t)
 unfolding All
-read-form {t} G = rw append-nil at (read-complete (form-text G) [] tt)
+form-text rooted {t} G = let H = canon-good G in is-tree no-mark (is-node (write-text (canon t) (H .small)) (depth-63 H)) (token-written 59) H
+form-text unrooted {t} G =
+    subst (λ (u : Tree). TreeText (record { kind = unrooted; tree = u }) (formAs unrooted t)) (stands-itself t (G .distinct))
+    (is-tree (marked-unrooted [] tt) (top-text t G) (token-written 59) (canonU-good G))
 
--- the forms of many trees are texts one after another
-forms-text : (ts : List Tree) → AllGood ts → TreesText (map canon ts) (forms ts)
-unfolding forms All
-forms-text [] G = none [] tt
-forms-text (t ∷ ts) G = more (form-text (G .0)) (forms-text ts (G .1))
+-- it is read back
+pub read-form : (takes : Takes) (k : Kind) → Taken takes k → {t : Tree} → Good t → readTree takes (formAs k t) ≡ got (canonKinded k t) (length (formAs k t))
+unfolding All
+read-form takes k z G = rw append-nil at (read-complete takes (form-text k G) z [] tt)
 
--- canonical trees are alike where the trees are
-canon-sub : (t u : Tree) → t ⊆ u → canon t ⊆ canon u
-canon-sub t u f l i = ≈-in (≈-sym (canon-≈ u)) l (f l (canon-in t l i))
+-- the texts of many trees are texts one after another
+forms-text : (k : Kind) (ts : List Tree) → AllGood ts → TreesText (map (canonKinded k) ts) (formsAs k ts)
+unfolding formsAs All
+forms-text k [] G = none [] tt
+forms-text k (t ∷ ts) G = more (form-text k (G .0)) (forms-text k ts (G .1))
 
-canon-alike : (first : Tree) (ts : List Tree) → Alike first ts → Alike (canon first) (map canon ts)
+-- canonical forms have the labels of their trees
+canon-clade : (k : Kind) {t : Tree} → Good t → SameClade (canonAs k t) t
+canon-clade rooted {t} G = ≈-clade (canon-≈ t)
+canon-clade unrooted {t} G = canonU-splits t (G .distinct) .0
+
+canon-alike : (k : Kind) (first : Tree) (ts : List Tree) → Good first → AllGood ts → ((i : ℕ) → i < length ts → SameClade first (treeOf ts i)) → Alike (canonKinded k first) (map (canonKinded k) ts)
 unfolding Alike
-canon-alike first [] h = tt
-canon-alike first (t ∷ ts) h = ((canon-sub first t (h .0 .0), canon-sub t first (h .0 .1)), canon-alike first ts (h .1))
+canon-alike k first [] F G h = tt
+canon-alike k first (t ∷ ts) F G h = (
+  record { kinds = refl; labels = clade-trans (canon-clade k F) (clade-trans (h 0 (omega arith)) (let e = canon-clade k (G .0) in (e .1, e .0))) },
+  canon-alike k first ts F (G .1) (λ i l. h (suc i) (omega (arith, l))),
+)
 
-canon-all-alike : (ts : List Tree) → AllAlike ts → AllAlike (map canon ts)
+-- trees with one label set have canonical forms that are alike
+abbrev pub OneLabels : List Tree → Type 0
+OneLabels [] = Unit {0}
+OneLabels (first ∷ ts) = (i : ℕ) → i < length ts → SameClade first (treeOf ts i)
+
+canon-all-alike : (takes : Takes) (k : Kind) → Taken takes k → (ts : List Tree) → AllGood ts → OneLabels ts → AllAlike takes (map (canonKinded k) ts)
 unfolding AllAlike
-canon-all-alike [] h = tt
-canon-all-alike (t ∷ ts) h = canon-alike t ts h
+canon-all-alike takes k z [] G h = tt
+canon-all-alike takes k z (t ∷ ts) G h = (z, canon-alike k t ts (G .0) (G .1) h)
 
--- the forms of many trees are read back
-pub read-forms : (ts : List Tree) → AllGood ts → AllAlike ts → length ts ≤ maxTrees → readTable (forms ts) ≡ got (map canon ts) (length (forms ts))
-read-forms ts G A few = table-complete (record { trees = forms-text ts G; few = rw length-map few; alike = canon-all-alike ts A })
+-- the canonical texts of many trees are read back
+pub read-forms : (takes : Takes) (k : Kind) → Taken takes k → (ts : List Tree) → AllGood ts → OneLabels ts → length ts ≤ maxTrees
+    → readTable takes (formsAs k ts) ≡ got (map (canonKinded k) ts) (length (formsAs k ts))
+read-forms takes k z ts G A few = table-complete takes (record { trees = forms-text k ts G; few = rw length-map few; alike = canon-all-alike takes k z ts G A })

@@ -8,17 +8,21 @@ use Prim.Native.Nat.{ℕ, zero, suc, _+_, _-_, _<_, _≤_}
 use native.Mathlib.Decide.{decLe}
 use native.Mathlib.Numerals.{sub-one}
 use native.Mathlib.Omega.{arith}
-use borrow.Author.Tests.{lt-ltb}
+use borrow.Author.Tests.{lt-ltb, eqb-true, ne-eqb}
+use lib.Dec.{eqb}
 use lib.ListN.{length, drop, take, getD, length-take, take-append-drop}
 use lib.Seq.{take-take, getD-take, drop-drop, take-append-seam}
 use Rattle.meaning.specs.Limits.{maxOpen, maxTrees}
 use Rattle.meaning.specs.Tree.{Tree, labels}
-use Rattle.meaning.specs.Reading.{Read, got, refused, isBlank, isDigit, byteAt, skip, runEnd, value, andThen, token, labelAt, forkAt, readNode, treeAt, readTree, likeFirst, orDiffers, tableFrom, readTable}
+use Rattle.meaning.specs.Kind.{Kind, rooted, unrooted, Kinded, Takes}
+use Rattle.meaning.specs.Reading.{Read, got, refused, isBlank, isDigit, byteAt, skip, runEnd, value, andThen, token, labelAt, forkAt, nodeAt, readNode, exactly, letterAt, thirdAt, threeAt, topAt, treeAt, untaken, readTree, likeFirst, orDiffers, tableFrom, readTable}
 use Rattle.meaning.specs.Prefix.{From}
 use Rattle.meaning.proofs.Lists.{drop-take}
-use Rattle.meaning.proofs.Logic.{clash}
+use Rattle.meaning.proofs.Logic.{clash, cases}
 use Rattle.meaning.proofs.Scan.{past-ge, past-byte, past-run, past-some}
-use Rattle.meaning.proofs.Ways.{Gives, reads, refuses, gives-refused, gives-map, gives-and, token-yes, token-no, token-gives, then-gives, label-bad, label-again, label-new, label-gives, node-label, node-bad, node-deep, node-fork, node-gives, whole-gives, end-gives, like-gives, table-full, table-next}
+use Rattle.meaning.proofs.Ways.{Gives, reads, refuses, gives-refused, gives-map, gives-and, token-yes, token-no, token-gives, then-gives, label-bad, label-again, label-new, label-gives}
+use Rattle.meaning.proofs.Ways.{at-label, at-bracket, at-other, node-gives, exactly-yes, exactly-no, exactly-gives, letter-gives, third-two, third-more, third-gives, eqb-differs}
+use Rattle.meaning.proofs.Ways.{markRest, unmarked, tree-marked, tree-plain, whole-gives, differs-gives, end-gives, table-full, table-next}
 use Rattle.meaning.proofs.Complete.{at-byte, past-all, value-all}
 use Rattle.meaning.proofs.Sound.{run, run-from, run-is, ds-value, SoundTree, tree-gives}
 
@@ -125,24 +129,6 @@ module _ (s s′ : List ℕ) where
       (λ n q k. (omega (arith, h .0, k .0), λ R. rw (h .1 (agree-before e (omega (arith, k .0)) (R .same))) (k .1 R)))
       (G a e)
 
-  follows-token : {A : Type 0} (b p : ℕ) (next next′ : ℕ → Read A) → Follows (skip s p) (next (skip s p + 1)) (next′ (skip s p + 1)) → Follows p (token b s p next) (token b s′ p next′)
-  follows-token b p next next′ F =
-      let ge = past-ge isBlank s p in
-      token-gives b s p next
-      (λ f. (ge, λ R. let z = skip-same p (omega arith) (R .same) in token-no b s′ p next′ (λ h. f (same-byte (skip s p) (omega arith) (R .same) ∙ ap (byteAt s′) (sym z) ∙ h)) ∙ ap (refused 1) z))
-      (λ h. gives-map
-      (λ a e k. (
-        omega (arith, k .0),
-        λ A. let z = skip-same p (k .0) (A .same) in
-            token-yes b s′ p next′ (ap (byteAt s′) z ∙ sym (same-byte (skip s p) (k .0) (A .same)) ∙ h) ∙ rw z (k .1 A),
-      ))
-      (λ n q k. (
-        omega (arith, k .0),
-        λ R. let z = skip-same p (omega (arith, k .0)) (R .same) in
-            token-yes b s′ p next′ (ap (byteAt s′) z ∙ sym (same-byte (skip s p) (omega (arith, k .0)) (R .same)) ∙ h) ∙ rw z (k .1 R),
-      ))
-      F)
-
   follows-from : {A : Type 0} {lo hi : ℕ} {r r′ : Read A} → lo ≤ hi → Follows hi r r′ → Follows lo r r′
   follows-from h F = gives-map (λ a e k. (omega (arith, k .0), k .1)) (λ n q k. (omega (arith, k .0), k .1)) F
 
@@ -150,139 +136,233 @@ module _ (s s′ : List ℕ) where
   skip-byte : (p : ℕ) {m : ℕ} → skip s p < m → Same s s′ m → byteAt s′ (skip s′ p) ≡ byteAt s (skip s p)
   skip-byte p l h = ap (byteAt s′) (skip-same p l h) ∙ sym (same-byte (skip s p) l h)
 
+  -- a token, and a byte itself
+  token-follows : {A : Type 0} (b p : ℕ) (next next′ : ℕ → Read A) → Follows (skip s p) (next (skip s p + 1)) (next′ (skip s p + 1)) → Follows (skip s p) (token b s p next) (token b s′ p next′)
+  token-follows b p next next′ F =
+      token-gives b s p next
+      (λ f. (omega arith, λ R. token-no b s′ p next′ (λ h. f (sym (skip-byte p (omega arith) (R .same)) ∙ h)) ∙ ap (refused 1) (skip-same p (omega arith) (R .same))))
+      (λ h. gives-map
+      (λ a e k. (k .0, λ A. token-yes b s′ p next′ (skip-byte p (k .0) (A .same) ∙ h) ∙ rw (skip-same p (k .0) (A .same)) (k .1 A)))
+      (λ n q k. (k .0, λ R. token-yes b s′ p next′ (skip-byte p (omega (arith, k .0)) (R .same) ∙ h) ∙ rw (skip-same p (omega (arith, k .0)) (R .same)) (k .1 R)))
+      F)
+
+  follows-token : {A : Type 0} (b p : ℕ) (next next′ : ℕ → Read A) → Follows (skip s p) (next (skip s p + 1)) (next′ (skip s p + 1)) → Follows p (token b s p next) (token b s′ p next′)
+  follows-token b p next next′ F = follows-from (past-ge isBlank s p) (token-follows b p next next′ F)
+
+  follows-exactly : {A : Type 0} (b p : ℕ) (next next′ : ℕ → Read A) → Follows p (next (p + 1)) (next′ (p + 1)) → Follows p (exactly b s p next) (exactly b s′ p next′)
+  follows-exactly b p next next′ F =
+      exactly-gives b s p next
+      (λ f. (omega arith, λ R. exactly-no b s′ p next′ (λ h. f (same-byte p (omega arith) (R .same) ∙ h))))
+      (λ h. gives-map
+      (λ a e k. (k .0, λ A. exactly-yes b s′ p next′ (sym (same-byte p (k .0) (A .same)) ∙ h) ∙ k .1 A))
+      (λ n q k. (k .0, λ R. exactly-yes b s′ p next′ (sym (same-byte p (omega (arith, k .0)) (R .same)) ∙ h) ∙ k .1 R))
+      F)
+
   -- a label is read alike where its run is the same
   label-same : (q : ℕ) (seen : List ℕ) → isDigit (byteAt s q) ≡ true → Agree s s′ (runEnd s q) → labelAt s′ q seen ≡ labelAt s q seen
   unfolding labelAt
   label-same q seen d A = rw (value-same q d A, run-end-same q d A)
 
-  label-follows : (room p : ℕ) (seen : List ℕ) → isDigit (byteAt s (skip s p)) ≡ true → Follows p (labelAt s (skip s p) seen) (readNode room s′ p seen)
-  unfolding isDigit
-  label-follows room p seen d =
-      label-gives s q seen
-      (λ bad. (past-ge isBlank s p, λ R. node-same (R .label (inl refl)) ∙ label-bad s q seen bad))
-      (λ allowed again. (past-ge isBlank s p, λ R. node-same (R .label (inr refl)) ∙ label-again s q seen allowed again))
-      (λ allowed new. (omega (arith, past-ge isBlank s p, past-some isDigit s q refl d), λ A. node-same A ∙ label-new s q seen allowed new))
-    where
-      q : ℕ
-      q = skip s p
+  -- the start of a node
+  module _ (bracket bracket′ : ℕ → Read Tree) (p : ℕ) (seen : List ℕ) where
+    node-same : isDigit (byteAt s (skip s p)) ≡ true → Agree s s′ (runEnd s (skip s p)) → nodeAt bracket′ s′ p seen ≡ labelAt s (skip s p) seen
+    node-same d A =
+        let l = run-some (skip s p) d A in
+        at-label s′ p seen bracket′ (ap isDigit (skip-byte p l (A .same)) ∙ d) ∙ rw (skip-same p l (A .same)) (label-same (skip s p) seen d A)
 
-      node-same : Agree s s′ (runEnd s (skip s p)) → readNode room s′ p seen ≡ labelAt s (skip s p) seen
-      node-same A =
-          let l = run-some (skip s p) d A in
-          node-label s′ p seen room (ap isDigit (skip-byte p l (A .same)) ∙ d) ∙ rw (skip-same p l (A .same)) (label-same (skip s p) seen d A)
+    label-follows : isDigit (byteAt s (skip s p)) ≡ true → Follows (skip s p) (labelAt s (skip s p) seen) (nodeAt bracket′ s′ p seen)
+    unfolding isDigit
+    label-follows d =
+        let q = skip s p in
+        label-gives s q seen
+        (λ bad. (omega arith, λ R. node-same d (R .label (inl refl)) ∙ label-bad s q seen bad))
+        (λ allowed again. (omega arith, λ R. node-same d (R .label (inr refl)) ∙ label-again s q seen allowed again))
+        (λ allowed new. (past-some isDigit s q refl d, λ A. node-same d A ∙ label-new s q seen allowed new))
 
-  -- a node
-  module _ (p : ℕ) (seen : List ℕ) where
-    node-wrong : (room : ℕ) → isDigit (byteAt s (skip s p)) ≡ false → (byteAt s (skip s p) ≡ 40 → ⊥) → Stays p (readNode room s′ p seen) 1 (skip s p)
-    node-wrong room z f = (
-      past-ge isBlank s p,
-      λ R.
-          let e = skip-byte p (omega arith) (R .same) in
-          node-bad s′ p seen room (ap isDigit e ∙ z) (λ h. f (sym e ∙ h)) ∙ ap (refused 1) (skip-same p (omega arith) (R .same)),
-    )
+    node-opens : byteAt s (skip s p) ≡ 40 → (m : ℕ) → skip s p < m → Same s s′ m → nodeAt bracket′ s′ p seen ≡ bracket′ (skip s p)
+    unfolding isDigit
+    node-opens h m l S =
+        let e : byteAt s′ (skip s′ p) ≡ 40 = skip-byte p l S ∙ h in
+        at-bracket s′ p seen bracket′ (ap isDigit e) e ∙ ap bracket′ (skip-same p l S)
 
-    module _ (h : byteAt s (skip s p) ≡ 40) where
-      node-four : Stays p (readNode 0 s′ p seen) 4 (skip s p)
-      unfolding isDigit
-      node-four = (
-        past-ge isBlank s p,
-        λ R.
-            let e : byteAt s′ (skip s′ p) ≡ 40 = skip-byte p (omega arith) (R .same) ∙ h in
-            node-deep s′ p seen 0 (ap isDigit e) e refl ∙ ap (refused 4) (skip-same p (omega arith) (R .same)),
-      )
+    begin-follows : (byteAt s (skip s p) ≡ 40 → Follows (skip s p) (bracket (skip s p)) (bracket′ (skip s p))) → Follows (skip s p) (nodeAt bracket s p seen) (nodeAt bracket′ s′ p seen)
+    begin-follows F =
+        node-gives s bracket p seen
+        (λ z f. (
+          omega arith,
+          λ R.
+              let e = skip-byte p (omega arith) (R .same) in
+              at-other s′ p seen bracket′ (ap isDigit e ∙ z) (λ h. f (sym e ∙ h)) ∙ ap (refused 1) (skip-same p (omega arith) (R .same)),
+        ))
+        label-follows λ h.
+        gives-map (λ t e k. (k .0, λ A. node-opens h e (k .0) (A .same) ∙ k .1 A)) (λ n q k. (k .0, λ R. node-opens h (q + 1) (omega (arith, k .0)) (R .same) ∙ k .1 R)) (F h)
 
-      node-opens : (room m : ℕ) → skip s p < m → Same s s′ m → readNode (suc room) s′ p seen ≡ forkAt (readNode room s′) s′ (skip s p + 1) seen
-      unfolding isDigit
-      node-opens room m l S =
-          let e : byteAt s′ (skip s′ p) ≡ 40 = skip-byte p l S ∙ h in
-          node-fork s′ p seen (suc room) (ap isDigit e) e (λ z. omega arith) ∙ rw (skip-same p l S, sub-one)
+  -- where nodes are read alike, so are a fork and an unrooted top
+  module _ (node node′ : ℕ → List ℕ → Read Tree) (ih : (p : ℕ) (seen : List ℕ) → Follows p (node p seen) (node′ p seen)) where
+    fork-follows : (p : ℕ) (seen : List ℕ) → Follows p (forkAt node s p seen) (forkAt node′ s′ p seen)
+    unfolding forkAt
+    fork-follows p seen =
+        follows-then p _ _ _ _ (ih p seen) λ a p₁.
+        follows-token 44 p₁ _ _ (follows-from (omega arith)
+        (follows-then (skip s p₁ + 1) _ _ _ _ (ih (skip s p₁ + 1) (seen ++ labels a)) λ b p₃.
+        follows-token 41 p₃ _ _ (reads (omega arith, λ A. refl))))
 
-  fork-follows : (node node′ : ℕ → List ℕ → Read Tree) → ((p : ℕ) (seen : List ℕ) → Follows p (node p seen) (node′ p seen)) → (p : ℕ) (seen : List ℕ)
-      → Follows p (forkAt node s p seen) (forkAt node′ s′ p seen)
-  unfolding forkAt
-  fork-follows node node′ ih p seen =
-      follows-then p _ _ _ _ (ih p seen) λ a p₁.
-      follows-token 44 p₁ _ _ (follows-from (omega arith)
-      (follows-then (skip s p₁ + 1) _ _ _ _ (ih (skip s p₁ + 1) (seen ++ labels a)) λ b p₃.
-      follows-token 41 p₃ _ _ (reads (omega arith, λ A. refl))))
+    third-follows : (a b : Tree) (p : ℕ) → Follows p (thirdAt node s a b p) (thirdAt node′ s′ a b p)
+    third-follows a b p =
+        follows-from (past-ge isBlank s p)
+        (third-gives node s a b p
+        (λ z h. (
+          omega arith,
+          λ A. third-two node′ s′ a b p z (skip-byte p (omega arith) (A .same) ∙ h) ∙ rw (skip-same p (omega arith) (A .same)),
+        )) λ f.
+        gives-map
+        (λ t e k. (k .0, λ A. third-more node′ s′ a b p (λ z h. f z (sym (skip-byte p (k .0) (A .same)) ∙ h)) ∙ k .1 A))
+        (λ n q k. (k .0, λ R. third-more node′ s′ a b p (λ z h. f z (sym (skip-byte p (omega (arith, k .0)) (R .same)) ∙ h)) ∙ k .1 R))
+        (token-follows 44 p _ _ (follows-from (omega arith)
+        (follows-then (skip s p + 1) _ _ _ _ (ih (skip s p + 1) (labels a ++ labels b)) λ c p₂.
+        follows-token 41 p₂ _ _ (reads (omega arith, λ A. refl))))))
 
-  node-follows : (room p : ℕ) (seen : List ℕ) → Follows p (readNode room s p seen) (readNode room s′ p seen)
+    three-follows : (p : ℕ) → Follows p (threeAt node s p) (threeAt node′ s′ p)
+    unfolding threeAt
+    three-follows p =
+        follows-then p _ _ _ _ (ih p []) λ a p₁.
+        follows-token 44 p₁ _ _ (follows-from (omega arith)
+        (follows-then (skip s p₁ + 1) _ _ _ _ (ih (skip s p₁ + 1) (labels a)) λ b p₃.
+        third-follows a b p₃))
+
+  node-follows : (room p : ℕ) (seen : List ℕ) → Follows (skip s p) (readNode room s p seen) (readNode room s′ p seen)
   unfolding readNode
-  node-follows zero p seen = node-gives s (λ q. refused 4 q) p seen (node-wrong p seen 0) (label-follows 0 p seen) (λ h. refuses (node-four p seen h))
+  node-follows zero p seen = begin-follows (λ q. refused 4 q) (λ q. refused 4 q) p seen (λ h. refuses (omega arith, λ R. refl))
   node-follows (suc room) p seen =
-      node-gives s (λ q. forkAt (readNode room s) s (q + 1) seen) p seen (node-wrong p seen (suc room)) (label-follows (suc room) p seen) λ h.
-      gives-map
-      (λ t e k. (omega (arith, past-ge isBlank s p, k .0), λ A. node-opens p seen h room e (omega (arith, k .0)) (A .same) ∙ k .1 A))
-      (λ n q k. (omega (arith, past-ge isBlank s p, k .0), λ R. node-opens p seen h room (q + 1) (omega (arith, k .0)) (R .same) ∙ k .1 R))
-      (fork-follows (readNode room s) (readNode room s′) (node-follows room) (skip s p + 1) seen)
+      begin-follows (λ q. forkAt (readNode room s) s (q + 1) seen) (λ q. forkAt (readNode room s′) s′ (q + 1) seen) p seen λ h.
+      follows-from (omega arith)
+      (fork-follows (readNode room s) (readNode room s′) (λ p seen. follows-from (past-ge isBlank s p) (node-follows room p seen)) (skip s p + 1) seen)
+
+  top-follows : (k : Kind) (p : ℕ) → Follows (skip s p) (topAt k s p) (topAt k s′ p)
+  unfolding topAt
+  top-follows rooted p = node-follows maxOpen p []
+  top-follows unrooted p =
+      let room : ℕ = maxOpen - 1 in
+      begin-follows (λ q. threeAt (readNode room s) s (q + 1)) (λ q. threeAt (readNode room s′) s′ (q + 1)) p [] λ h.
+      follows-from (omega arith)
+      (three-follows (readNode room s) (readNode room s′) (λ p seen. follows-from (past-ge isBlank s p) (node-follows room p seen)) (skip s p + 1))
+
+  letter-follows : (p : ℕ) → Follows p (letterAt s p) (letterAt s′ p)
+  unfolding letterAt exactly
+  letter-follows p =
+      letter-gives s p
+      (λ h. (omega arith, λ A. let e : byteAt s′ p ≡ 85 = sym (same-byte p (omega arith) (A .same)) ∙ h in rw e))
+      (λ h. (omega arith, λ A. let e : byteAt s′ p ≡ 82 = sym (same-byte p (omega arith) (A .same)) ∙ h in rw e))
+      (λ f g. (
+        omega arith,
+        λ R. let e = same-byte p (omega arith) (R .same) in rw (ne-eqb (byteAt s′ p) 85 (λ h. f (e ∙ h)), ne-eqb (byteAt s′ p) 82 (λ h. g (e ∙ h))),
+      ))
+
+  mark-follows : (q : ℕ) → Follows q (markRest s q) (markRest s′ q)
+  mark-follows q =
+      follows-exactly 38 q _ _ (follows-from (omega arith)
+      (follows-then (q + 1) _ _ _ _ (letter-follows (q + 1)) λ k p₂.
+      follows-exactly 93 p₂ _ _ (reads (omega arith, λ A. refl))))
+
+  unmarked-follows : (k : Kind) (p : ℕ) → Follows (skip s p) (unmarked s k p) (unmarked s′ k p)
+  unmarked-follows k p = follows-then (skip s p) _ _ _ _ (top-follows k p) λ t q. follows-token 59 q _ _ (reads (omega arith, λ A. refl))
 
   tree-follows : (p : ℕ) → Follows p (treeAt s p) (treeAt s′ p)
-  unfolding treeAt
-  tree-follows p = follows-then p _ _ _ _ (node-follows maxOpen p []) λ t q. follows-token 59 q _ _ (reads (omega arith, λ A. refl))
+  tree-follows p =
+      let ge = past-ge isBlank s p in
+      cases (λ d. Follows p (treeAt s p) (treeAt s′ p)) (eqb (byteAt s (skip s p)) 91)
+      (λ y.
+      let h = eqb-true (byteAt s (skip s p)) 91 y in
+      rw (tree-marked s p h) (gives-map
+      (λ x e k. (
+        omega (arith, k .0),
+        λ A. tree-marked s′ p (skip-byte p (omega (arith, k .0)) (A .same) ∙ h) ∙ rw (skip-same p (omega (arith, k .0)) (A .same)) (k .1 A),
+      ))
+      (λ n q k. (
+        omega (arith, k .0),
+        λ R. tree-marked s′ p (skip-byte p (omega (arith, k .0)) (R .same) ∙ h) ∙ rw (skip-same p (omega (arith, k .0)) (R .same)) (k .1 R),
+      ))
+      (follows-then (skip s p + 1) _ _ _ _ (mark-follows (skip s p + 1)) λ k p₁. follows-from (past-ge isBlank s p₁) (unmarked-follows k p₁))))
+      (λ n.
+      let f = eqb-differs (byteAt s (skip s p)) 91 n in
+      rw (tree-plain s p f) (gives-map
+      (λ x e k. (omega (arith, k .0), λ A. tree-plain s′ p (λ h. f (sym (skip-byte p (k .0) (A .same)) ∙ h)) ∙ k .1 A))
+      (λ n q k. (omega (arith, k .0), λ R. tree-plain s′ p (λ h. f (sym (skip-byte p (omega (arith, k .0)) (R .same)) ∙ h)) ∙ k .1 R))
+      (unmarked-follows rooted p)))
 
   -- a tree of a text that begins alike is refused alike
   pub tree-stable : (p n q : ℕ) → treeAt s p ≡ refused n q → Reach s s′ n q → treeAt s′ p ≡ refused n q
   tree-stable p n q e = gives-refused (tree-follows p) e .1
 
-  -- a text with one tree
-  tree-ends : (t : Tree) (e : ℕ) → (Agree s s′ e → treeAt s′ 0 ≡ got t e) → skip s e < length s → Same s s′ (skip s e + 1) → readTree s′ ≡ refused 1 (skip s e)
-  unfolding readTree
-  tree-ends t e f l S =
-      rw (f (agree-before e (omega (arith, past-ge isBlank s e)) S), skip-same e (omega arith) S, lt-ltb (skip s e) (length s′) (same-inside (skip s e) (omega arith) S l))
+  -- the `;` of a tree ends no run of digits
+  agree-end : {q e : ℕ} {x : Kinded} → SoundTree s q x e → Same s s′ (e - 1 + 1) → Agree s s′ e
+  unfolding isDigit
+  agree-end {e} S h =
+      let back : e - 1 + 1 ≡ e = omega (arith, S .behind-it .0) in
+      record { same = rw back at h; edge = λ i z d. let k : i ≡ e - 1 = omega arith in let n : isDigit (byteAt s i) ≡ false = rw k (ap isDigit (S .behind-it .2)) in clash cc }
 
-  tree-refused : (n q : ℕ) → treeAt s′ 0 ≡ refused n q → readTree s′ ≡ refused n q
-  unfolding readTree
-  tree-refused n q e = rw e
+  module _ (takes : Takes) where
+    -- a text with one tree
+    tree-ends : (x : Kinded) (e : ℕ) → (Agree s s′ e → treeAt s′ 0 ≡ got x e) → untaken takes (x .kind) ≡ 0 → skip s e < length s → Same s s′ (skip s e + 1) → readTree takes s′ ≡ refused 1 (skip s e)
+    unfolding readTree
+    tree-ends x e f z l S =
+        rw (f (agree-before e (omega (arith, past-ge isBlank s e)) S), z, skip-same e (omega arith) S, lt-ltb (skip s e) (length s′) (same-inside (skip s e) (omega arith) S l))
 
-  read-follows : Gives (λ t e. Unit {0}) (λ n q. Reach s s′ n q → readTree s′ ≡ refused n q) (readTree s)
-  read-follows = whole-gives s (gives-map (λ t e h. h) (λ n q h R. tree-refused n q (h .1 R)) (tree-follows 0)) (λ t e h l R. tree-ends t e (h .1) l (R .same)) (λ t e h l. tt)
+    tree-untaken : (x : Kinded) (e m : ℕ) → treeAt s′ 0 ≡ got x e → untaken takes (x .kind) ≡ suc m → readTree takes s′ ≡ refused (suc m) (e - 1)
+    unfolding readTree
+    tree-untaken x e m f z = rw (f, z)
 
-  -- a text that begins alike is refused alike
-  pub read-stable : (n q : ℕ) → readTree s ≡ refused n q → Reach s s′ n q → readTree s′ ≡ refused n q
-  read-stable n q e = gives-refused read-follows e
+    tree-refused : (n q : ℕ) → treeAt s′ 0 ≡ refused n q → readTree takes s′ ≡ refused n q
+    unfolding readTree
+    tree-refused n q e = rw e
 
-  -- the trees of a table from q on
-  module _ (slots q : ℕ) (ts : List Tree) (l : q < length s) where
-    abbrev goes : Tree → ℕ → Read (List Tree)
-    goes t p = orDiffers (likeFirst ts t) t p (λ t p. tableFrom slots s′ (skip s′ p) (ts ++ (t ∷ [])))
+    read-follows : Gives (λ t e. Unit {0}) (λ n q. Reach s s′ n q → readTree takes s′ ≡ refused n q) (readTree takes s)
+    read-follows =
+        whole-gives takes s (gives-map (λ x e h. h) (λ n q h R. tree-refused n q (h .1 .1 R)) (gives-and (tree-gives s 0) (tree-follows 0)))
+        (λ x e h m z R. tree-untaken x e m (h .1 .1 (agree-end (h .0) (R .same))) z) (λ x e h z l R. tree-ends x e (h .1 .1) z l (R .same)) (λ x e h z l. tt)
 
-    next-same : (m : ℕ) → q < m → Same s s′ m → tableFrom (suc slots) s′ q ts ≡ andThen (treeAt s′ q) goes
-    next-same m h S = table-next (suc slots) s′ q ts (same-inside q h S l) (omega arith) ∙ rw sub-one
+    -- a text that begins alike is refused alike
+    pub read-stable : (n q : ℕ) → readTree takes s ≡ refused n q → Reach s s′ n q → readTree takes s′ ≡ refused n q
+    read-stable n q e = gives-refused read-follows e
 
-    -- line 5, at the `;` of a tree
-    five-same : (t : Tree) (e m : ℕ) → SoundTree s q t e → (Agree s s′ e → treeAt s′ q ≡ got t e) → likeFirst ts t ≡ suc m → Stays q (tableFrom (suc slots) s′ q ts) (suc m) (e - 1)
-    unfolding isDigit
-    five-same t e m S f z = (
-      omega (arith, S .behind-it .0),
-      λ R.
-          let back : e - 1 + 1 ≡ e = omega (arith, S .behind-it .0) in
-          let same : Same s s′ e = rw back at (R .same) in
-          let A : Agree s s′ e = record { same = same; edge = λ i h d. let k : i ≡ e - 1 = omega arith in let n : isDigit (byteAt s i) ≡ false = rw k (ap isDigit (S .behind-it .2)) in clash cc } in
-          next-same e (S .behind-it .0) same ∙ rw (f A, z),
-    )
+    -- the trees of a table from q on
+    module _ (slots q : ℕ) (xs : List Kinded) (l : q < length s) where
+      abbrev goes : Kinded → ℕ → Read (List Kinded)
+      goes x p = orDiffers (likeFirst takes xs x) p (tableFrom takes slots s′ (skip s′ p) (xs ++ (x ∷ [])))
 
-    rest-same : (t : Tree) (e n q′ : ℕ) → q < e → (Agree s s′ e → treeAt s′ q ≡ got t e) → likeFirst ts t ≡ 0 → Stays (skip s e) (tableFrom slots s′ (skip s e) (ts ++ (t ∷ []))) n q′
-        → Stays q (tableFrom (suc slots) s′ q ts) n q′
-    rest-same t e n q′ h f z k = let ge = past-ge isBlank s e in (
-      omega (arith, k .0),
-      λ R.
-          next-same (q′ + 1) (omega (arith, k .0)) (R .same)
-          ∙ rw (f (agree-before e (omega (arith, k .0)) (R .same)), z, skip-same e (omega (arith, k .0)) (R .same)) (k .1 R),
-    )
+      next-same : (m : ℕ) → q < m → Same s s′ m → tableFrom takes (suc slots) s′ q xs ≡ andThen (treeAt s′ q) goes
+      next-same m h S = table-next takes (suc slots) s′ q xs (same-inside q h S l) (omega arith) ∙ rw sub-one
 
-  from-follows : (slots q : ℕ) (ts : List Tree) → Gives (λ us e. Unit {0}) (Stays q (tableFrom slots s′ q ts)) (tableFrom slots s q ts)
-  unfolding tableFrom
-  from-follows zero q ts = end-gives s ts q _ (λ l. tt) (λ l. refuses (omega arith, λ R. table-full 0 s′ q ts (same-inside q (omega arith) (R .same) l) refl))
-  from-follows (suc slots) q ts =
-      end-gives s ts q _ (λ l. tt) λ l.
-      then-gives _ (gives-map (λ t e h. h) (λ n q′ h. (h .1 .0, λ R. next-same slots q ts l (q′ + 1) (omega (arith, h .1 .0)) (R .same) ∙ rw (h .1 .1 R)))
-      (gives-and (tree-gives s q) (tree-follows q))) λ t e h.
-      like-gives (likeFirst ts t) t e _ (λ m z. five-same slots q ts l t e m (h .0) (h .1 .1) z) λ z.
-      gives-map (λ us e k. k) (λ n q′ k. rest-same slots q ts l t e n q′ (h .1 .0) (h .1 .1) z k) (from-follows slots (skip s e) (ts ++ (t ∷ [])))
+      -- lines 10 and 5, at the `;` of a tree
+      unlike-same : (x : Kinded) (e m : ℕ) → SoundTree s q x e → (Agree s s′ e → treeAt s′ q ≡ got x e) → likeFirst takes xs x ≡ suc m
+          → Stays q (tableFrom takes (suc slots) s′ q xs) (suc m) (e - 1)
+      unlike-same x e m S f z = (
+        omega (arith, S .behind-it .0),
+        λ R. let A = agree-end S (R .same) in next-same e (S .behind-it .0) (A .same) ∙ rw (f A, z),
+      )
 
-  -- a table that begins alike is refused alike
-  pub table-stable : (n q : ℕ) → readTable s ≡ refused n q → Reach s s′ n q → readTable s′ ≡ refused n q
-  unfolding readTable
-  table-stable n q e R =
-      let F = gives-refused (from-follows maxTrees (skip s 0) []) e in
-      rw (skip-same 0 (omega (arith, F .0)) (R .same)) (F .1 R)
+      rest-same : (x : Kinded) (e n q′ : ℕ) → q < e → (Agree s s′ e → treeAt s′ q ≡ got x e) → likeFirst takes xs x ≡ 0 → Stays (skip s e) (tableFrom takes slots s′ (skip s e) (xs ++ (x ∷ []))) n q′
+          → Stays q (tableFrom takes (suc slots) s′ q xs) n q′
+      rest-same x e n q′ h f z k = let ge = past-ge isBlank s e in (
+        omega (arith, k .0),
+        λ R.
+            next-same (q′ + 1) (omega (arith, k .0)) (R .same)
+            ∙ rw (f (agree-before e (omega (arith, k .0)) (R .same)), z, skip-same e (omega (arith, k .0)) (R .same)) (k .1 R),
+      )
+
+    from-follows : (slots q : ℕ) (xs : List Kinded) → Gives (λ us e. Unit {0}) (Stays q (tableFrom takes slots s′ q xs)) (tableFrom takes slots s q xs)
+    unfolding tableFrom
+    from-follows zero q xs = end-gives s xs q _ (λ l. tt) (λ l. refuses (omega arith, λ R. table-full takes 0 s′ q xs (same-inside q (omega arith) (R .same) l) refl))
+    from-follows (suc slots) q xs =
+        end-gives s xs q _ (λ l. tt) λ l.
+        then-gives _ (gives-map (λ x e h. h) (λ n q′ h. (h .1 .0, λ R. next-same slots q xs l (q′ + 1) (omega (arith, h .1 .0)) (R .same) ∙ rw (h .1 .1 R)))
+        (gives-and (tree-gives s q) (tree-follows q))) λ x e h.
+        differs-gives (likeFirst takes xs x) e (λ m z. unlike-same slots q xs l x e m (h .0) (h .1 .1) z) λ z.
+        gives-map (λ us e k. k) (λ n q′ k. rest-same slots q xs l x e n q′ (h .1 .0) (h .1 .1) z k) (from-follows slots (skip s e) (xs ++ (x ∷ [])))
+
+    -- a table that begins alike is refused alike
+    pub table-stable : (n q : ℕ) → readTable takes s ≡ refused n q → Reach s s′ n q → readTable takes s′ ≡ refused n q
+    unfolding readTable
+    table-stable n q e R =
+        let F = gives-refused (from-follows maxTrees (skip s 0) []) e in
+        rw (skip-same 0 (omega (arith, F .0)) (R .same)) (F .1 R)

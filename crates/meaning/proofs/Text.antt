@@ -14,7 +14,7 @@ use Rattle.meaning.proofs.Same.{good-first, good-second}
 use Rattle.meaning.proofs.Canon.{canon-good, topology-iff-canon}
 
 -- a text that does not begin with a digit
-abbrev Stop : List ℕ → Type 0
+abbrev pub Stop : List ℕ → Type 0
 Stop [] = Unit {0}
 Stop (x ∷ xs) = 48 ≤ x → x ≤ 57 → ⊥
 
@@ -30,12 +30,13 @@ digits-read m n xs ys h k f g e = go (decLe m 9) (decLe n 9)
         let d = rw (digits-two m (omega arith) (omega arith), digits-two n (omega arith) (omega arith)) at e in
         let i : 48 + m / 10 ≡ 48 + n / 10 = cc in let j : 48 + m % 10 ≡ 48 + n % 10 = cc in (omega arith, cc)
 
-digits-no-bracket : (m : ℕ) (xs ys : List ℕ) → m ≤ maxLabel → digits m ++ xs ≡ 40 ∷ ys → ⊥
-digits-no-bracket m xs ys h e = go (decLe m 9)
+-- a label begins with a digit
+pub digits-begin : (m b : ℕ) (xs ys : List ℕ) → m ≤ maxLabel → Stop (b ∷ ys) → digits m ++ xs ≡ b ∷ ys → ⊥
+digits-begin m b xs ys h f e = go (decLe m 9)
   where
     go : Dec (m ≤ 9) → ⊥
-    go (yes a) = let d = rw (digits-one m a) at e in let i : 48 + m ≡ 40 = cc in omega arith
-    go (no a) = let d = rw (digits-two m (omega arith) (omega arith)) at e in let i : 48 + m / 10 ≡ 40 = cc in omega arith
+    go (yes a) = let d = rw (digits-one m a) at e in let i : 48 + m ≡ b = cc in f (omega arith) (omega arith)
+    go (no a) = let d = rw (digits-two m (omega arith) (omega arith)) at e in let i : 48 + m / 10 ≡ b = cc in f (omega arith) (omega arith)
 
 write-fork : (a b : Tree) (xs : List ℕ) → write (fork a b) ++ xs ≡ 40 ∷ (write a ++ (44 ∷ (write b ++ (41 ∷ xs))))
 write-fork a b xs = simp append-assoc
@@ -43,8 +44,8 @@ write-fork a b xs = simp append-assoc
 -- a tree's text tells the tree and where it ends
 pub write-read : (a b : Tree) (xs ys : List ℕ) → Small a → Small b → Stop xs → Stop ys → write a ++ xs ≡ write b ++ ys → (a ≡ b) × (xs ≡ ys)
 write-read (leaf m) (leaf n) xs ys A B f g e = let (i, j) = digits-read m n xs ys (A m tip .1) (B n tip .1) f g e in (ap leaf i, j)
-write-read (leaf m) (fork c d) xs ys A B f g e = absurd (digits-no-bracket m xs _ (A m tip .1) (e ∙ write-fork c d ys))
-write-read (fork a b) (leaf n) xs ys A B f g e = absurd (digits-no-bracket n ys _ (B n tip .1) (sym e ∙ write-fork a b xs))
+write-read (leaf m) (fork c d) xs ys A B f g e = absurd (digits-begin m 40 xs _ (A m tip .1) (omega arith) (e ∙ write-fork c d ys))
+write-read (fork a b) (leaf n) xs ys A B f g e = absurd (digits-begin n 40 ys _ (B n tip .1) (omega arith) (sym e ∙ write-fork a b xs))
 write-read (fork a b) (fork c d) xs ys A B f g e =
     let p = sym (write-fork a b xs) ∙ e ∙ write-fork c d ys in
     let p′ : write a ++ (44 ∷ (write b ++ (41 ∷ xs))) ≡ write c ++ (44 ∷ (write d ++ (41 ∷ ys))) = cc p in

@@ -13,12 +13,13 @@ use lib.Dec.{T, T-not, not-T, eqb, eqb→eq}
 use lib.ListN.{length}
 use Rattle.meaning.specs.Lists.{count, positions, bit}
 use Rattle.meaning.specs.Tree.{Tree, AllGood, SameTopology, canon}
-use Rattle.meaning.specs.Move.{Apart}
+use Rattle.meaning.specs.Kind.{Kind}
+use Rattle.meaning.specs.EitherKind.{SameAs, ApartAs}
 use Rattle.meaning.specs.Listing.{Pair, Listing, At, treeOf, neighbours, copyOf, paired, copies, unlinkedFrom, unlinked}
-use Rattle.meaning.proofs.Logic.{T-and, cases}
+use Rattle.meaning.proofs.Logic.{T-and, cases, iff-then}
 use Rattle.meaning.proofs.Decide.{eqTree-iff, sameTopology-iff}
 use Rattle.meaning.proofs.TableText.{good-at}
-use Rattle.meaning.proofs.Moves.{apart-sym}
+use Rattle.meaning.proofs.EitherKind.{AllStand, topology-sameAs, same-iff-canonAs, apart-symAs}
 use Rattle.meaning.proofs.Sums.{count-positions, upto-add, upto-same, upto-const, upto-term, bit-one, bit-none}
 use Rattle.meaning.proofs.Counts.{linked?, mem-paired, paired-mem, paired-sym, neighbours-paired}
 
@@ -98,27 +99,41 @@ module _ (ts : List Tree) {L : ℕ → ℕ → Type 0} {ps : List Pair} (H : Lis
         upto-const 1 k,
       )
 
--- ---- the listing of the trees that are one move apart
-module _ (ts : List Tree) (G : AllGood ts) {ps : List Pair} (H : Listing (length ts) (At Apart ts) ps) where
+-- ---- the listing of the trees that are one move apart, of either kind
+-- a neighbour is no copy, so with the neighbours and the copies the unlinked are all the trees
+pub unlinked-neighbours-copies : (k : Kind) (ts : List Tree) → AllGood ts → {ps : List Pair} → Listing (length ts) (At (ApartAs k) ts) ps
+    → (i : ℕ) → i < length ts → unlinked ts ps i + neighbours ps i + copies ts i ≡ length ts
+unlinked-neighbours-copies k ts G H =
+    unlinked-sum ts H (λ i j g l a c.
+    let h : i < length ts = omega arith in
+    a .0 (topology-sameAs k (treeOf ts i) (treeOf ts j) (good-at ts G i h .distinct) (good-at ts G j l .distinct) (copy-iff ts G i j h l .0 c)))
+
+-- copies are trees of one topology, of either kind
+pub copy-iffAs : (k : Kind) (ts : List Tree) → AllGood ts → AllStand k ts → (i j : ℕ) → i < length ts → j < length ts → T (copyOf ts i j) ↔ SameAs k (treeOf ts i) (treeOf ts j)
+copy-iffAs k ts G S i j h l =
+    let same = same-iff-canonAs k (treeOf ts i) (treeOf ts j) (good-at ts G i h .distinct) (good-at ts G j l .distinct) in
+    iff-then (copy-canon ts i j) (λ e. same .1 (S i h ∙ e ∙ sym (S j l)), λ e. sym (S i h) ∙ same .0 e ∙ S j l)
+
+module _ (k : Kind) (ts : List Tree) (G : AllGood ts) (S : AllStand k ts) {ps : List Pair} (H : Listing (length ts) (At (ApartAs k) ts) ps) where
   module _ (i j : ℕ) (h : i < length ts) (l : j < length ts) where
-    same : T (copyOf ts i j) ↔ SameTopology (treeOf ts i) (treeOf ts j)
-    same = copy-iff ts G i j h l
+    same : T (copyOf ts i j) ↔ SameAs k (treeOf ts i) (treeOf ts j)
+    same = copy-iffAs k ts G S i j h l
 
     -- two positions stand in a pair where their trees are one move apart
-    pub paired-iff : ¬ T (copyOf ts i j) → T (paired ps i j) ↔ Apart (treeOf ts i) (treeOf ts j)
+    pub paired-iff : ¬ T (copyOf ts i j) → T (paired ps i j) ↔ ApartAs k (treeOf ts i) (treeOf ts j)
     paired-iff differ = go (other i j (not-T (eqb i j) (λ t. differ (itself ts i j t))))
       where
-        go : (i < j) ⊎ (j < i) → T (paired ps i j) ↔ Apart (treeOf ts i) (treeOf ts j)
+        go : (i < j) ⊎ (j < i) → T (paired ps i j) ↔ ApartAs k (treeOf ts i) (treeOf ts j)
         go (inl g) = (λ t. H .listed i j .0 (paired-mem H g t) .2, λ a. mem-paired (H .listed i j .1 (g, l, a)))
         go (inr g) =
             let D = good-at ts G i h .distinct in
             let E = good-at ts G j l .distinct in (
-              λ t. apart-sym E D (H .listed j i .0 (paired-mem H g (subst T (paired-sym ps i j) t)) .2),
-              λ a. subst T (paired-sym ps j i) (mem-paired (H .listed j i .1 (g, h, apart-sym D E a))),
+              λ t. apart-symAs k (treeOf ts j) (treeOf ts i) E D (H .listed j i .0 (paired-mem H g (subst T (paired-sym ps i j) t)) .2),
+              λ a. subst T (paired-sym ps j i) (mem-paired (H .listed j i .1 (g, h, apart-symAs k (treeOf ts i) (treeOf ts j) D E a))),
             )
 
     -- the unlinked are those that have another topology and are not one move apart
-    pub unlinked-iff : T (unlinkedFrom ts ps i j) ↔ ((¬ SameTopology (treeOf ts i) (treeOf ts j)) × (¬ Apart (treeOf ts i) (treeOf ts j)))
+    pub unlinked-iff : T (unlinkedFrom ts ps i j) ↔ ((¬ SameAs k (treeOf ts i) (treeOf ts j)) × (¬ ApartAs k (treeOf ts i) (treeOf ts j)))
     unlinked-iff = (
       λ t.
           let (f, g) = T-and (not (copyOf ts i j)) (not (paired ps i j)) .0 t in
@@ -129,16 +144,13 @@ module _ (ts : List Tree) (G : AllGood ts) {ps : List Pair} (H : Listing (length
           T-and (not (copyOf ts i j)) (not (paired ps i j)) .1 (not-T (copyOf ts i j) differ, not-T (paired ps i j) (λ t. x .1 (paired-iff differ .0 t))),
     )
 
-  -- so with the neighbours and the copies they are all the trees
-  pub unlinked-neighbours-copies : (i : ℕ) → i < length ts → unlinked ts ps i + neighbours ps i + copies ts i ≡ length ts
-  unlinked-neighbours-copies = unlinked-sum ts H (λ i j g l a c. a .0 (copy-iff ts G i j (omega arith) l .0 c))
-
   -- and there is none exactly where all trees of other topologies are neighbours
-  pub unlinked-none : (i : ℕ) → i < length ts → (unlinked ts ps i ≡ 0) ↔ ((j : ℕ) → j < length ts → ¬ SameTopology (treeOf ts i) (treeOf ts j) → Apart (treeOf ts i) (treeOf ts j))
+  pub unlinked-none : (i : ℕ) → i < length ts
+      → (unlinked ts ps i ≡ 0) ↔ ((j : ℕ) → j < length ts → ¬ SameAs k (treeOf ts i) (treeOf ts j) → ApartAs k (treeOf ts i) (treeOf ts j))
   unlinked-none i h = (
     λ e j l n.
         let differ : ¬ T (copyOf ts i j) = λ c. n (same i j h l .0 c) in
-        cases (λ b. paired ps i j ≡ b → Apart (treeOf ts i) (treeOf ts j)) (paired ps i j)
+        cases (λ b. paired ps i j ≡ b → ApartAs k (treeOf ts i) (treeOf ts j)) (paired ps i j)
         (λ _ p. paired-iff i j h l differ .0 (subst T (sym p) tt))
         (λ _ p. absurd (count-none (unlinkedFrom ts ps i) (length ts) e j l (T-and (not (copyOf ts i j)) (not (paired ps i j)) .1 (not-T (copyOf ts i j) differ, rw p tt)))) refl,
     λ f. none-count (unlinkedFrom ts ps i) (length ts) (λ j l t. let x = unlinked-iff i j h l .0 t in x .1 (f j l (x .0))),

@@ -13,8 +13,9 @@ use lib.ListN.{length, drop, getD, replicate, length-drop}
 use lib.Seq.{drop-cons, drop-drop}
 use Rattle.meaning.specs.Limits.{maxOpen, maxTrees}
 use Rattle.meaning.specs.Lists.{member}
-use Rattle.meaning.specs.Tree.{Tree, leaf, labels}
-use Rattle.meaning.specs.Reading.{Read, got, refused, isBlank, isDigit, byteAt, lead, past, skip, runEnd, valueAfter, value, andThen, orWrong, token, badLabel, labelAt, forkAt, nodeAt, readNode, treeAt, readTree, likeFirst, orDiffers, orEnd, tableFrom, readTable}
+use Rattle.meaning.specs.Tree.{Tree, leaf, fork, labels}
+use Rattle.meaning.specs.Reading.{Read, got, refused, isBlank, isDigit, byteAt, lead, past, skip, runEnd, valueAfter, value, andThen, orWrong, token, badLabel, labelAt, forkAt, nodeAt, readNode, exactly, letterAt, markAt, twoLabels, thirdAt, threeAt, topAt, treeAt, untaken, readTree, likeFirst, orDiffers, orEnd, tableFrom, readTable}
+use Rattle.meaning.specs.Kind.{Kind, rooted, unrooted, Kinded, Takes}
 use Rattle.meaning.specs.Zeros.{padding, unpad, unpadded, SameReading, both-read, both-refused}
 use Rattle.meaning.proofs.Logic.{and-left, and-right, cases, clash}
 use Rattle.meaning.proofs.Scan.{inside, digit-low, digit-no-blank, blank-no-digit}
@@ -228,13 +229,17 @@ module _ (s u : List ℕ) where
   wrong-likewise p q next next′ false true e f = clash cc
   wrong-likewise p q next next′ false false e f = refuses
 
+  exact-likewise : {A : Type 0} (b : ℕ) → 0 < b → isDigit b ≡ false → (next next′ : ℕ → Read A) (p q : ℕ) → Like p q
+      → ((i j : ℕ) → Like i j → Likewise (next i) (next′ j)) → Likewise (exactly b s p next) (exactly b u q next′)
+  unfolding exactly
+  exact-likewise b l n next next′ p q h f =
+      wrong-likewise p q (λ i. next (i + 1)) (λ j. next′ (j + 1)) (eqb (byteAt s p) b) (eqb (byteAt u q) b) (like-test p q h b n)
+      (λ e. f _ _ (like-next p q h b (eqb-true (byteAt s p) b e) l n))
+
   token-likewise : {A : Type 0} (b : ℕ) → 0 < b → isDigit b ≡ false → (next next′ : ℕ → Read A) (p q : ℕ) → Like p q
       → ((i j : ℕ) → Like i j → Likewise (next i) (next′ j)) → Likewise (token b s p next) (token b u q next′)
-  unfolding token
-  token-likewise b l n next next′ p q h f =
-      let k = like-skip p q h in
-      wrong-likewise (skip s p) (skip u q) (λ i. next (i + 1)) (λ j. next′ (j + 1)) (eqb (byteAt s (skip s p)) b) (eqb (byteAt u (skip u q)) b) (like-test (skip s p) (skip u q) k b n)
-      (λ e. f _ _ (like-next (skip s p) (skip u q) k b (eqb-true (byteAt s (skip s p)) b e) l n))
+  unfolding token exactly
+  token-likewise b l n next next′ p q h f = exact-likewise b l n next next′ (skip s p) (skip u q) (like-skip p q h) f
 
   label-likewise : (p q : ℕ) (seen : List ℕ) → Like p q → Likewise (labelAt s p seen) (labelAt u q seen)
   unfolding labelAt
@@ -271,52 +276,111 @@ module _ (s u : List ℕ) where
       node-likewise (λ i. forkAt (readNode room s) s (i + 1) seen) (λ j. forkAt (readNode room u) u (j + 1) seen)
       (λ i j e k. fork-likewise (readNode room s) (readNode room u) (nodes-likewise room) (i + 1) (j + 1) seen (like-next i j k 40 e (omega arith) refl)) p q seen h
 
+  letter-likewise : (p q : ℕ) → Like p q → Likewise (letterAt s p) (letterAt u q)
+  unfolding letterAt isDigit
+  letter-likewise p q h =
+      cond-likewise (eqb (byteAt s p) 85) (eqb (byteAt u q) 85) (like-test p q h 85 refl) (λ e. reads (like-next p q h 85 (eqb-true (byteAt s p) 85 e) (omega arith) refl))
+      (λ _. exact-likewise 82 (omega arith) refl _ _ p q h λ i j k. reads k)
+
+  mark-likewise : (p q : ℕ) → Like p q → Likewise (markAt s p) (markAt u q)
+  unfolding markAt isDigit
+  mark-likewise p q h =
+      let k = like-skip p q h in
+      let i = skip s p in
+      let j = skip u q in
+      cond-likewise (eqb (byteAt s i) 91) (eqb (byteAt u j) 91) (like-test i j k 91 refl)
+      (λ e.
+      exact-likewise 38 (omega arith) refl _ _ (i + 1) (j + 1) (like-next i j k 91 (eqb-true (byteAt s i) 91 e) (omega arith) refl) λ p₁ q₁ h₁.
+      then-likewise (letter-likewise p₁ q₁ h₁) λ w p₂ q₂ h₂.
+      exact-likewise 93 (omega arith) refl _ _ p₂ q₂ h₂ λ p₃ q₃ h₃.
+      reads h₃)
+      (λ _. reads h)
+
+  third-likewise : (node node′ : ℕ → List ℕ → Read Tree) → ((p q : ℕ) (seen : List ℕ) → Like p q → Likewise (node p seen) (node′ q seen)) → (a b : Tree) (p q : ℕ) → Like p q
+      → Likewise (thirdAt node s a b p) (thirdAt node′ u a b q)
+  unfolding thirdAt isDigit
+  third-likewise node node′ ih a b p q h =
+      let k = like-skip p q h in
+      let i = skip s p in
+      let j = skip u q in
+      let two = twoLabels (fork a b) in
+      cond-likewise (two && eqb (byteAt s i) 41) (two && eqb (byteAt u j) 41) (ap (λ (d : Bool). two && d) (like-test i j k 41 refl))
+      (λ e. reads (like-next i j k 41 (eqb-true (byteAt s i) 41 (and-right two (eqb (byteAt s i) 41) e)) (omega arith) refl)) λ _.
+      token-likewise 44 (omega arith) refl _ _ p q h λ p₁ q₁ h₁.
+      then-likewise (ih p₁ q₁ (labels a ++ labels b) h₁) λ c p₂ q₂ h₂.
+      token-likewise 41 (omega arith) refl _ _ p₂ q₂ h₂ λ p₃ q₃ h₃.
+      reads h₃
+
+  three-likewise : (node node′ : ℕ → List ℕ → Read Tree) → ((p q : ℕ) (seen : List ℕ) → Like p q → Likewise (node p seen) (node′ q seen)) → (p q : ℕ) → Like p q
+      → Likewise (threeAt node s p) (threeAt node′ u q)
+  unfolding threeAt isDigit
+  three-likewise node node′ ih p q h =
+      then-likewise (ih p q [] h) λ a p₁ q₁ h₁.
+      token-likewise 44 (omega arith) refl _ _ p₁ q₁ h₁ λ p₂ q₂ h₂.
+      then-likewise (ih p₂ q₂ (labels a) h₂) λ b p₃ q₃ h₃.
+      third-likewise node node′ ih a b p₃ q₃ h₃
+
+  top-likewise : (k : Kind) (p q : ℕ) → Like p q → Likewise (topAt k s p) (topAt k u q)
+  unfolding topAt isDigit
+  top-likewise rooted p q h = nodes-likewise maxOpen p q [] h
+  top-likewise unrooted p q h =
+      let node : ℕ → List ℕ → Read Tree = readNode (maxOpen - 1) s in
+      let node′ : ℕ → List ℕ → Read Tree = readNode (maxOpen - 1) u in
+      node-likewise (λ i. threeAt node s (i + 1)) (λ j. threeAt node′ u (j + 1))
+      (λ i j e k. three-likewise node node′ (nodes-likewise (maxOpen - 1)) (i + 1) (j + 1) (like-next i j k 40 e (omega arith) refl)) p q [] h
+
   tree-likewise : (p q : ℕ) → Like p q → Likewise (treeAt s p) (treeAt u q)
   unfolding treeAt isDigit
-  tree-likewise p q h = then-likewise (nodes-likewise maxOpen p q [] h) λ t i j k. token-likewise 59 (omega arith) refl _ _ i j k λ i j l. reads l
+  tree-likewise p q h =
+      then-likewise (mark-likewise p q h) λ k p₁ q₁ h₁.
+      then-likewise (top-likewise k p₁ q₁ h₁) λ t p₂ q₂ h₂.
+      token-likewise 59 (omega arith) refl _ _ p₂ q₂ h₂ λ p₃ q₃ h₃.
+      reads h₃
 
-  read-likewise : Like 0 0 → Likewise (readTree s) (readTree u)
-  unfolding readTree
-  read-likewise h =
-      then-likewise (tree-likewise 0 0 h) λ t p q k.
-      cond-likewise (ltb (skip s p) (length s)) (ltb (skip u q) (length u)) (like-end (skip s p) (skip u q) (like-skip p q k)) (λ _. refuses) (λ _. reads k)
+  differs-likewise : {A : Type 0} {r r′ : Read A} (n p q : ℕ) → Likewise r r′ → Likewise (orDiffers n p r) (orDiffers n q r′)
+  differs-likewise zero p q f = f
+  differs-likewise (suc n) p q f = refuses
 
-  end-likewise : (ts : List Tree) (p q : ℕ) (next next′ : ℕ → Read (List Tree)) → Like p q → Likewise (next p) (next′ q)
-      → Likewise (orEnd (ltb p (length s)) ts p next) (orEnd (ltb q (length u)) ts q next′)
-  end-likewise ts p q next next′ h f = go (ltb p (length s)) (ltb q (length u)) (like-end p q h)
+  end-likewise : (xs : List Kinded) (p q : ℕ) (next next′ : ℕ → Read (List Kinded)) → Like p q → Likewise (next p) (next′ q)
+      → Likewise (orEnd (ltb p (length s)) xs p next) (orEnd (ltb q (length u)) xs q next′)
+  end-likewise xs p q next next′ h f = go (ltb p (length s)) (ltb q (length u)) (like-end p q h)
     where
-      go : (d d′ : Bool) → d ≡ d′ → Likewise (orEnd d ts p next) (orEnd d′ ts q next′)
+      go : (d d′ : Bool) → d ≡ d′ → Likewise (orEnd d xs p next) (orEnd d′ xs q next′)
       go true true e = f
       go true false e = clash cc
       go false true e = clash cc
       go false false e = reads h
 
-  differs-likewise : (n : ℕ) (t : Tree) (p q : ℕ) (next next′ : Tree → ℕ → Read (List Tree)) → Likewise (next t p) (next′ t q) → Likewise (orDiffers n t p next) (orDiffers n t q next′)
-  differs-likewise zero t p q next next′ f = f
-  differs-likewise (suc n) t p q next next′ f = refuses
+  module _ (takes : Takes) where
+    read-likewise : Like 0 0 → Likewise (readTree takes s) (readTree takes u)
+    unfolding readTree
+    read-likewise h =
+        then-likewise (tree-likewise 0 0 h) λ x p q k.
+        differs-likewise (untaken takes (x .kind)) p q
+        (cond-likewise (ltb (skip s p) (length s)) (ltb (skip u q) (length u)) (like-end (skip s p) (skip u q) (like-skip p q k)) (λ _. refuses) (λ _. reads k))
 
-  trees-likewise : (slots p q : ℕ) (ts : List Tree) → Like p q → Likewise (tableFrom slots s p ts) (tableFrom slots u q ts)
-  unfolding tableFrom
-  trees-likewise zero p q ts h = end-likewise ts p q _ _ h refuses
-  trees-likewise (suc slots) p q ts h =
-      end-likewise ts p q _ _ h
-      (then-likewise (tree-likewise p q h) λ t i j k.
-      differs-likewise (likeFirst ts t) t i j _ _ (trees-likewise slots (skip s i) (skip u j) (ts ++ (t ∷ [])) (like-skip i j k)))
+    trees-likewise : (slots p q : ℕ) (xs : List Kinded) → Like p q → Likewise (tableFrom takes slots s p xs) (tableFrom takes slots u q xs)
+    unfolding tableFrom
+    trees-likewise zero p q xs h = end-likewise xs p q _ _ h refuses
+    trees-likewise (suc slots) p q xs h =
+        end-likewise xs p q _ _ h
+        (then-likewise (tree-likewise p q h) λ x i j k.
+        differs-likewise (likeFirst takes xs x) i j (trees-likewise slots (skip s i) (skip u j) (xs ++ (x ∷ [])) (like-skip i j k)))
 
-  table-likewise : Like 0 0 → Likewise (readTable s) (readTable u)
-  unfolding readTable
-  table-likewise h = trees-likewise maxTrees (skip s 0) (skip u 0) [] (like-skip 0 0 h)
+    table-likewise : Like 0 0 → Likewise (readTable takes s) (readTable takes u)
+    unfolding readTable
+    table-likewise h = trees-likewise maxTrees (skip s 0) (skip u 0) [] (like-skip 0 0 h)
 
   same-reading : {A : Type 0} {r r′ : Read A} → Likewise r r′ → SameReading r r′
   same-reading (reads h) = both-read
   same-reading refuses = both-refused
 
   -- texts that differ only in zeros before labels are one tree's, or one table's, or are refused by the same line
-  pub zeros-tree : unpadded s ≡ unpadded u → SameReading (readTree s) (readTree u)
-  zeros-tree h = same-reading (read-likewise h)
+  pub zeros-tree : (takes : Takes) → unpadded s ≡ unpadded u → SameReading (readTree takes s) (readTree takes u)
+  zeros-tree takes h = same-reading (read-likewise takes h)
 
-  pub zeros-table : unpadded s ≡ unpadded u → SameReading (readTable s) (readTable u)
-  zeros-table h = same-reading (table-likewise h)
+  pub zeros-table : (takes : Takes) → unpadded s ≡ unpadded u → SameReading (readTable takes s) (readTable takes u)
+  zeros-table takes h = same-reading (table-likewise takes h)
 
 -- ---- and any number of zeros put before a digit, where no digit goes before, is such a difference
 zeros-first : (n : ℕ) (y : List ℕ) → isDigit (getD y 0 0) ≡ true → isDigit (getD (replicate n 48 ++ y) 0 0) ≡ true

@@ -6,8 +6,8 @@ use Prim.Native.Nat.{ℕ, suc}
 use lib.Dec.{eqb}
 use lib.ListN.{length}
 use Rattle.meaning.specs.Bytes.{bytes}
-use Rattle.meaning.specs.Tree.{Tree}
-use Rattle.meaning.specs.Move.{Apart}
+use Rattle.meaning.specs.Kind.{Trees}
+use Rattle.meaning.specs.EitherKind.{ApartAs}
 use Rattle.meaning.specs.Listing.{Pair, Listing}
 use Rattle.meaning.specs.Islands.{size}
 use Rattle.meaning.specs.Copies.{merged, LinkedBy, MergedIslands}
@@ -31,8 +31,9 @@ abbrev pub islandLines : List ℕ → List ℕ
 islandLines ms = linesFrom ms 0 ms
 
 -- the lines of the trees ts, joined by chains of the merged pairs that are one move apart
-pub data IslandSheetOf (ts : List Tree) : List ℕ → Type 0 where
-  shows-islands : (ps : List Pair) (ms : List ℕ) → Listing (length ts) (LinkedBy merged Apart ts) ps → MergedIslands ts ps ms → IslandSheetOf ts (islandLines ms)
+pub data IslandSheetOf (table : Trees) : List ℕ → Type 0 where
+  shows-islands : (ps : List Pair) (ms : List ℕ) → Listing (length (table .trees)) (LinkedBy merged (ApartAs (table .kind)) (table .trees)) ps → MergedIslands (table .trees) ps ms
+      → IslandSheetOf table (islandLines ms)
 
 -- what the islands program prints for the text s
 abbrev pub IslandSheet : List ℕ → List ℕ → Type 0

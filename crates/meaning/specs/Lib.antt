@@ -4,10 +4,12 @@ pub mod Calls
 pub mod Clade
 pub mod Copies
 pub mod Decide
+pub mod EitherKind
 pub mod Grammar
 pub mod Interchange
 pub mod IslandSheet
 pub mod Islands
+pub mod Kind
 pub mod Limits
 pub mod Listing
 pub mod Lists
@@ -19,4 +21,6 @@ pub mod Refusals
 pub mod Samples
 pub mod Sheet
 pub mod Tree
+pub mod Unrooted
+pub mod UnrootedDecide
 pub mod Zeros

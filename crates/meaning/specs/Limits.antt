@@ -18,9 +18,13 @@ maxNodes = 2 * maxLabel - 1
 abbrev pub textBytes : ℕ
 textBytes = 65535
 
--- bytes of the longest canonical text
+-- bytes of the longest canonical text of a rooted tree
 abbrev pub formBytes : ℕ
 formBytes = 309
+
+-- bytes lent for a canonical text of either kind: a mark has four
+abbrev pub kindBytes : ℕ
+kindBytes = formBytes + 4
 
 -- bytes of the longest forest text
 abbrev pub forestBytes : ℕ
@@ -32,7 +36,7 @@ maxTrees = 160
 
 -- bytes lent to the table call: a canonical text for each tree
 abbrev pub tableBytes : ℕ
-tableBytes = maxTrees * formBytes
+tableBytes = maxTrees * kindBytes
 
 -- numbers lent to the graph call for pairs: i, then j, of each
 abbrev pub pairNumbers : ℕ
@@ -44,7 +48,7 @@ firstLineBytes = 22
 
 -- bytes of the line of a tree: its position, neighbours and unlinked number, and its canonical text
 abbrev pub treeLineBytes : ℕ
-treeLineBytes = 38 + formBytes
+treeLineBytes = 38 + kindBytes
 
 -- bytes of the line of a pair
 abbrev pub pairLineBytes : ℕ

@@ -8,6 +8,8 @@ use lib.ListN.{length, drop, getD}
 use Rattle.meaning.specs.Limits.{maxLabel, maxOpen, maxTrees}
 use Rattle.meaning.specs.Lists.{member, within}
 use Rattle.meaning.specs.Tree.{Tree, leaf, fork, labels}
+use Rattle.meaning.specs.Kind.{Kind, rooted, unrooted, Kinded, Takes, either, rooted-only}
+use Rattle.meaning.specs.Unrooted.{standing}
 
 -- what was read and the place behind it; or a number of the refusal list and the place
 pub data Read (A : Type 0) : Type 0 where
@@ -98,46 +100,110 @@ unfoldable pub readNode : ℕ → List ℕ → ℕ → List ℕ → Read Tree
 readNode zero s p seen = nodeAt (λ q. refused 4 q) s p seen
 readNode (suc room) s p seen = nodeAt (λ q. forkAt (readNode room s) s (q + 1) seen) s p seen
 
--- a tree: a node and `;`, at most 63 brackets open at once
-unfoldable pub treeAt : List ℕ → ℕ → Read Tree
-treeAt s p = andThen (readNode maxOpen s p []) λ t p₁. token 59 s p₁ λ p₂. got t p₂
+-- the byte b at p itself, with no blank before it
+unfoldable pub exactly : {A : Type 0} → ℕ → List ℕ → ℕ → (ℕ → Read A) → Read A
+exactly b s p next = orWrong (eqb (byteAt s p) b) p (λ q. next (q + 1))
 
--- a text with exactly one tree: behind its `;` are blanks only
-unfoldable pub readTree : List ℕ → Read Tree
-readTree s = andThen (treeAt s 0) λ t p. cond (ltb (skip s p) (length s)) (refused 1 (skip s p)) (got t p)
+-- the letter of a mark, U or R
+unfoldable pub letterAt : List ℕ → ℕ → Read Kind
+letterAt s p = cond (eqb (byteAt s p) 85) (got unrooted (p + 1)) (exactly 82 s p (got rooted))
+
+-- the mark [&U] or [&R], behind blanks; a tree without one is rooted
+unfoldable pub markAt : List ℕ → ℕ → Read Kind
+markAt s p =
+    let q : ℕ = skip s p in
+    cond (eqb (byteAt s q) 91) (exactly 38 s (q + 1) λ p₁. andThen (letterAt s p₁) λ k p₂. exactly 93 s p₂ (got k))
+    (got rooted p)
+
+-- a fork of two labels
+unfoldable pub twoLabels : Tree → Bool
+twoLabels (leaf v) = false
+twoLabels (fork (leaf v) (leaf w)) = true
+twoLabels (fork (leaf v) (fork a b)) = false
+twoLabels (fork (fork a b) c) = false
+
+-- the rest of an unrooted tree's top behind its nodes a and b: `)` behind two labels, else `,` node `)`
+unfoldable pub thirdAt : (ℕ → List ℕ → Read Tree) → List ℕ → Tree → Tree → ℕ → Read Tree
+thirdAt node s a b p =
+    cond (twoLabels (fork a b) && eqb (byteAt s (skip s p)) 41) (got (fork a b) (skip s p + 1))
+    (token 44 s p λ p₁.
+    andThen (node p₁ (labels a ++ labels b)) λ c p₂.
+    token 41 s p₂ λ p₃.
+    got (fork a (fork b c)) p₃)
+
+-- the rest of an unrooted tree's top behind its bracket: node `,` node, and a third unless these are two labels
+unfoldable pub threeAt : (ℕ → List ℕ → Read Tree) → List ℕ → ℕ → Read Tree
+threeAt node s p =
+    andThen (node p []) λ a p₁.
+    token 44 s p₁ λ p₂.
+    andThen (node p₂ (labels a)) λ b p₃.
+    thirdAt node s a b p₃
+
+-- the top of a tree: a rooted tree's is a node; an unrooted one's is a label, or a bracket with two labels or three nodes
+unfoldable pub topAt : Kind → List ℕ → ℕ → Read Tree
+topAt rooted s p = readNode maxOpen s p []
+topAt unrooted s p = nodeAt (λ q. threeAt (readNode (maxOpen - 1) s) s (q + 1)) s p []
+
+-- a tree: a mark or none, the top and `;`, at most 63 brackets open at once
+unfoldable pub treeAt : List ℕ → ℕ → Read Kinded
+treeAt s p =
+    andThen (markAt s p) λ k p₁.
+    andThen (topAt k s p₁) λ t p₂.
+    token 59 s p₂ λ p₃.
+    got (record { kind = k; tree = standing k t }) p₃
+
+-- the line that says why a tree of this kind is not taken: 10, or 0 where it is
+abbrev pub untaken : Takes → Kind → ℕ
+untaken either k = 0
+untaken rooted-only rooted = 0
+untaken rooted-only unrooted = 10
+
+-- go on behind the tree x, which ends at p, where no line says that it can't stand there; else that line, at its `;`
+abbrev pub orDiffers : {A : Type 0} → ℕ → ℕ → Read A → Read A
+orDiffers zero p next = next
+orDiffers (suc n) p next = refused (suc n) (p - 1)
+
+-- a text with exactly one tree, of a kind that is taken: behind its `;` are blanks only
+unfoldable pub readTree : Takes → List ℕ → Read Kinded
+readTree takes s =
+    andThen (treeAt s 0) λ x p.
+    orDiffers (untaken takes (x .kind)) p
+    (cond (ltb (skip s p) (length s)) (refused 1 (skip s p)) (got x p))
 
 -- the two trees have the same labels
 abbrev pub sameLabels : Tree → Tree → Bool
 sameLabels t u = within (labels t) (labels u) && within (labels u) (labels t)
 
--- the line that says why u can't stand beside t: 5 where the labels differ, 0 where none does
-abbrev pub unlike : Tree → Tree → ℕ
-unlike t u = cond (sameLabels t u) 0 5
+-- the two are of one kind
+abbrev pub sameKind : Kind → Kind → Bool
+sameKind rooted rooted = true
+sameKind rooted unrooted = false
+sameKind unrooted rooted = false
+sameKind unrooted unrooted = true
 
--- why t can't stand behind the trees of a table: it has to be like the first, if there is one
-abbrev pub likeFirst : List Tree → Tree → ℕ
-likeFirst [] t = 0
-likeFirst (first ∷ ts) t = unlike first t
+-- the line that says why y can't stand beside x: 10 where the kinds differ, then 5 where the labels do; 0 where neither
+abbrev pub unlike : Kinded → Kinded → ℕ
+unlike x y = cond (sameKind (x .kind) (y .kind)) (cond (sameLabels (x .tree) (y .tree)) 0 5) 10
 
--- go on behind the tree t, which ends at p, where no line says that it can't stand there; else that line, at its `;`
-abbrev pub orDiffers : ℕ → Tree → ℕ → (Tree → ℕ → Read (List Tree)) → Read (List Tree)
-orDiffers zero t p next = next t p
-orDiffers (suc n) t p next = refused (suc n) (p - 1)
+-- why x can't stand behind the trees of a table: it has to be like the first, and the first of a kind that is taken
+abbrev pub likeFirst : Takes → List Kinded → Kinded → ℕ
+likeFirst takes [] x = untaken takes (x .kind)
+likeFirst takes (first ∷ xs) x = unlike first x
 
 -- go on at q where there is a byte; at the end all trees are read
-abbrev pub orEnd : Bool → List Tree → ℕ → (ℕ → Read (List Tree)) → Read (List Tree)
-orEnd true ts q next = next q
-orEnd false ts q next = got ts q
+abbrev pub orEnd : Bool → List Kinded → ℕ → (ℕ → Read (List Kinded)) → Read (List Kinded)
+orEnd true xs q next = next q
+orEnd false xs q next = got xs q
 
--- the trees at q, where no blank stands, behind the trees ts; `slots` more may come, and then any byte is line 6
-unfoldable pub tableFrom : ℕ → List ℕ → ℕ → List Tree → Read (List Tree)
-tableFrom zero s q ts = orEnd (ltb q (length s)) ts q λ q. refused 6 q
-tableFrom (suc slots) s q ts =
-    orEnd (ltb q (length s)) ts q λ q.
-    andThen (treeAt s q) λ t p.
-    orDiffers (likeFirst ts t) t p λ t p.
-    tableFrom slots s (skip s p) (ts ++ (t ∷ []))
+-- the trees at q, where no blank stands, behind the trees xs; `slots` more may come, and then any byte is line 6
+unfoldable pub tableFrom : Takes → ℕ → List ℕ → ℕ → List Kinded → Read (List Kinded)
+tableFrom takes zero s q xs = orEnd (ltb q (length s)) xs q λ q. refused 6 q
+tableFrom takes (suc slots) s q xs =
+    orEnd (ltb q (length s)) xs q λ q.
+    andThen (treeAt s q) λ x p.
+    orDiffers (likeFirst takes xs x) p
+    (tableFrom takes slots s (skip s p) (xs ++ (x ∷ [])))
 
 -- a table: zero to 160 trees
-unfoldable pub readTable : List ℕ → Read (List Tree)
-readTable s = tableFrom maxTrees s (skip s 0) []
+unfoldable pub readTable : Takes → List ℕ → Read (List Kinded)
+readTable takes s = tableFrom takes maxTrees s (skip s 0) []

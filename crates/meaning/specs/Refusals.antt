@@ -2,14 +2,20 @@
 -- Assumes nothing.
 use mathlib.Core.List.{List, [], _∷_, _++_}
 use Prim.Native.Nat.{ℕ}
+use Rattle.meaning.specs.Kind.{Takes, either, rooted-only}
 
 -- reading a tree
 abbrev pub treeRefusals : List ℕ
 treeRefusals = 1 ∷ 2 ∷ 3 ∷ 4 ∷ []
 
--- a tree that can't stand beside another
+-- a tree that can't stand beside another, or is not taken
 abbrev pub unlikeRefusals : List ℕ
-unlikeRefusals = 5 ∷ []
+unlikeRefusals = 10 ∷ 5 ∷ []
+
+-- reading a text of one tree, of either kind or a rooted one
+abbrev pub oneRefusals : Takes → List ℕ
+oneRefusals either = treeRefusals
+oneRefusals rooted-only = treeRefusals ++ (10 ∷ [])
 
 -- reading a table
 abbrev pub tableRefusals : List ℕ
@@ -17,11 +23,11 @@ tableRefusals = treeRefusals ++ unlikeRefusals ++ (6 ∷ [])
 
 -- form call
 abbrev pub formRefusals : List ℕ
-formRefusals = treeRefusals ++ (7 ∷ 8 ∷ [])
+formRefusals = oneRefusals either ++ (7 ∷ 8 ∷ [])
 
 -- cut call
 abbrev pub cutRefusals : List ℕ
-cutRefusals = treeRefusals ++ (7 ∷ 8 ∷ 9 ∷ [])
+cutRefusals = oneRefusals rooted-only ++ (7 ∷ 8 ∷ 9 ∷ [])
 
 -- pair call
 abbrev pub pairRefusals : List ℕ

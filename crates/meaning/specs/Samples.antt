@@ -1,4 +1,4 @@
--- The starred samples of document 01, and what each claims. docs/RULES.md says what document 01 is.
+-- The starred samples of document 01, samples of unrooted trees, and what each claims. docs/RULES.md says what document 01 is.
 -- Assumes nothing.
 use mathlib.Core.Path.{_≡_}
 use mathlib.Core.Bool.{true, false}
@@ -6,9 +6,9 @@ use mathlib.Core.List.{List, [], _∷_}
 use Prim.Native.Nat.{ℕ, _≤_}
 use Prim.Native.String.{String}
 use lib.ListN.{length}
-use Rattle.meaning.specs.Limits.{formBytes, forestBytes, maxTrees, tableBytes, pairNumbers}
+use Rattle.meaning.specs.Limits.{kindBytes, forestBytes, maxTrees, tableBytes, pairNumbers}
 use Rattle.meaning.specs.Bytes.{bytes}
-use Rattle.meaning.specs.Tree.{Tree}
+use Rattle.meaning.specs.Kind.{Kinded, Trees}
 use Rattle.meaning.specs.Listing.{Pair}
 use Rattle.meaning.specs.Decide.{shared}
 use Rattle.meaning.specs.Answer.{accepted, refusal, TableMemory, FirstsMemory, written}
@@ -20,6 +20,7 @@ pub data Sample : Type 0 where
   form-refused : (text : String) (number place : ℕ) → Sample
   no-cuts : (text : String) → Sample
   has-cut : (text : String) (cut : ℕ) (forest : String) → Sample
+  cut-refused : (text : String) (cut number place : ℕ) → Sample
   table-refused : (text : String) (number place : ℕ) → Sample
   yes-apart : (text text′ : String) → Sample
   no-apart : (text text′ : String) → Sample
@@ -28,25 +29,26 @@ pub data Sample : Type 0 where
 
 -- the claim of a sample, whatever memory of the stated size is lent
 abbrev pub Claim : Sample → Type 0
-Claim (has-form x y) = (out : List ℕ) → formBytes ≤ length out → formCall (bytes x) out ≡ record { answer = accepted (length (bytes y)); memory = written (bytes y) out }
-Claim (form-refused x n p) = (out : List ℕ) → formBytes ≤ length out → formCall (bytes x) out ≡ record { answer = refusal n 0 p; memory = out }
+Claim (has-form x y) = (out : List ℕ) → kindBytes ≤ length out → formCall (bytes x) out ≡ record { answer = accepted (length (bytes y)); memory = written (bytes y) out }
+Claim (form-refused x n p) = (out : List ℕ) → kindBytes ≤ length out → formCall (bytes x) out ≡ record { answer = refusal n 0 p; memory = out }
 Claim (no-cuts x) = (c : ℕ) (out : List ℕ) → forestBytes ≤ length out → cutCall (bytes x) c out ≡ record { answer = refusal 9 0 0; memory = out }
 Claim (has-cut x c y) = (out : List ℕ) → forestBytes ≤ length out → cutCall (bytes x) c out ≡ record { answer = accepted (length (bytes y)); memory = written (bytes y) out }
+Claim (cut-refused x c n p) = (out : List ℕ) → forestBytes ≤ length out → cutCall (bytes x) c out ≡ record { answer = refusal n 0 p; memory = out }
 Claim (table-refused x n p) =
     (memory : TableMemory) → tableBytes ≤ length (memory .texts) → maxTrees ≤ length (memory .ends) → tableCall (bytes x) memory ≡ record { answer = refusal n 0 p; memory = memory }
 Claim (yes-apart x y) = PairCall (bytes x) (bytes y) (accepted true)
 Claim (no-apart x y) = PairCall (bytes x) (bytes y) (accepted false)
-Claim (shares x y n) = (t : Tree) × (u : Tree) × (pairRead (bytes x) (bytes y) ≡ accepted (t, u)) × (shared t u ≡ n)
+Claim (shares x y n) = (t : Kinded) × (u : Kinded) × (pairRead (bytes x) (bytes y) ≡ accepted (t, u)) × (shared (t .tree) (u .tree) ≡ n)
 Claim (lists x k ps) =
     (memory : FirstsMemory) → pairNumbers ≤ length (memory .graph .pairs) → maxTrees ≤ length (memory .graph .counts) → maxTrees ≤ length (memory .firsts)
-    → (ts : List Tree) × (length ts ≡ k) × GraphCall (bytes x) memory (firstsGraphOf ts ps memory)
+    → (ts : Trees) × (length (ts .trees) ≡ k) × GraphCall (bytes x) memory (firstsGraphOf (ts .trees) ps memory)
 
 -- all of them hold
 abbrev pub AllHold : List Sample → Type 0
 AllHold [] = Unit {0}
 AllHold (s ∷ ss) = Claim s × AllHold ss
 
--- the list
+-- those of document 01
 abbrev pub samples : List Sample
 samples =
     has-form "(3,(2,1));" "((1,2),3);"
@@ -65,4 +67,24 @@ samples =
     ∷ lists "(((1,2),3),4);((1,2),(3,4));" 2 ((0, 1) ∷ [])
     ∷ no-apart "(((1,2),3),4);" "(((3,4),1),2);"
     ∷ no-apart "((((4,5),1),2),3);" "((((1,2),3),4),5);"
+    ∷ []
+
+-- those of ticket 8 of document 02: marks, tops, the canonical text, line 10 and the move
+abbrev pub unrootedSamples : List Sample
+unrootedSamples =
+    has-form " [&U] (9,7);" "[&U](7,9);"
+    ∷ has-form "[&U]((5,1),2,(4,3));" "[&U](1,(2,(3,4)),5);"
+    ∷ has-form "[&R](2,1);" "(1,2);"
+    ∷ form-refused "[&u](1,2,3);" 1 2
+    ∷ form-refused "[&U" 1 3
+    ∷ form-refused "[&U][&U](1,2,3);" 1 4
+    ∷ form-refused "[&U](1,(2,3));" 1 12
+    ∷ form-refused "[&U](1,2,3,4);" 1 10
+    ∷ cut-refused "[&U](1,2,3); x" 99 10 11
+    ∷ table-refused "[&U](1,2,3);(1,2);" 10 17
+    ∷ table-refused "(1,2);(1,3);[&U](1,2);" 5 11
+    ∷ yes-apart "[&U](1,2,(3,4));" "[&U](1,3,(2,4));"
+    ∷ yes-apart "[&U](1,2,(3,(4,(5,6))));" "[&U](1,2,(((3,4),5),6));"
+    ∷ no-apart "[&U](1,2,(3,4));" "[&U]((4,3),2,1);"
+    ∷ lists "[&U](1,2,(3,4));[&U](1,3,(2,4));[&U](2,1,(4,3));" 3 ((0, 1) ∷ [])
     ∷ []

@@ -6,8 +6,9 @@ use Prim.Native.Nat.{ℕ, suc}
 use lib.ListN.{length}
 use Rattle.meaning.specs.Limits.{sheetBytes}
 use Rattle.meaning.specs.Bytes.{bytes}
-use Rattle.meaning.specs.Tree.{Tree, digits, form}
-use Rattle.meaning.specs.Move.{Apart}
+use Rattle.meaning.specs.Tree.{Tree, digits}
+use Rattle.meaning.specs.Kind.{Kind, Trees, either}
+use Rattle.meaning.specs.EitherKind.{ApartAs, formAs}
 use Rattle.meaning.specs.Listing.{Pair, Listing, At, neighbours, unlinked}
 use Rattle.meaning.specs.Answer.{Answer, accepted, refusal, Outcome, textOf, conclude}
 use Rattle.meaning.specs.Calls.{Slice, enough, lent, tableRead}
@@ -25,26 +26,26 @@ abbrev pub refusalLine : ℕ → ℕ → List ℕ
 refusalLine n p = twoFields (bytes "refused ") n (bytes " at ") p
 
 -- what a program prints for the text s: what it prints for its trees, or the line of its refusal
-pub data Printout (Prints : List Tree → List ℕ → Type 0) (s : List ℕ) : List ℕ → Type 0 where
-  prints : (ts : List Tree) (x : List ℕ) → tableRead s ≡ accepted ts → Prints ts x → Printout Prints s x
-  refuses : (n i p : ℕ) → tableRead s ≡ refusal n i p → Printout Prints s (refusalLine n p)
+pub data Printout (Prints : Trees → List ℕ → Type 0) (s : List ℕ) : List ℕ → Type 0 where
+  prints : (table : Trees) (x : List ℕ) → tableRead either s ≡ accepted table → Prints table x → Printout Prints s x
+  refuses : (n i p : ℕ) → tableRead either s ≡ refusal n i p → Printout Prints s (refusalLine n p)
 
 -- first line: number of trees, number of pairs
 abbrev pub firstLine : ℕ → ℕ → List ℕ
 firstLine k m = twoFields (bytes "trees ") k (bytes " pairs ") m
 
 -- for a tree its position, neighbours, unlinked number, canonical text
-unfoldable pub treeLine : ℕ → ℕ → ℕ → Tree → List ℕ
-treeLine i n u t = line (bytes "tree " ++ digits i ++ bytes " neighbours " ++ digits n ++ bytes " unlinked " ++ digits u ++ bytes " " ++ form t)
+unfoldable pub treeLine : Kind → ℕ → ℕ → ℕ → Tree → List ℕ
+treeLine k i n u t = line (bytes "tree " ++ digits i ++ bytes " neighbours " ++ digits n ++ bytes " unlinked " ++ digits u ++ bytes " " ++ formAs k t)
 
 -- the line of the tree t, at position i among the trees ts with the listed pairs ps
-abbrev pub treeLineOf : List Tree → List Pair → ℕ → Tree → List ℕ
-treeLineOf ts ps i t = treeLine i (neighbours ps i) (unlinked ts ps i) t
+abbrev pub treeLineOf : Trees → List Pair → ℕ → Tree → List ℕ
+treeLineOf table ps i t = treeLine (table .kind) i (neighbours ps i) (unlinked (table .trees) ps i) t
 
 -- the lines of the trees us, which stand among ts from position i on
-unfoldable pub treeLines : List Tree → List Pair → ℕ → List Tree → List ℕ
-treeLines ts ps i [] = []
-treeLines ts ps i (u ∷ us) = treeLineOf ts ps i u ++ treeLines ts ps (suc i) us
+unfoldable pub treeLines : Trees → List Pair → ℕ → List Tree → List ℕ
+treeLines table ps i [] = []
+treeLines table ps i (u ∷ us) = treeLineOf table ps i u ++ treeLines table ps (suc i) us
 
 -- the line of the pair of i and j
 abbrev pub pairLine : ℕ → ℕ → List ℕ
@@ -56,18 +57,18 @@ pairLines [] = []
 pairLines (p ∷ ps) = pairLine (p .0) (p .1) ++ pairLines ps
 
 -- the sheet of the trees ts with the listed pairs ps
-unfoldable pub sheet : List Tree → List Pair → List ℕ
-sheet ts ps = firstLine (length ts) (length ps) ++ treeLines ts ps 0 ts ++ pairLines ps
+unfoldable pub sheet : Trees → List Pair → List ℕ
+sheet table ps = firstLine (length (table .trees)) (length ps) ++ treeLines table ps 0 (table .trees) ++ pairLines ps
 
 -- the sheet of the trees ts with the pairs that are one move apart
-pub data SheetOf (ts : List Tree) : List ℕ → Type 0 where
-  shows-pairs : (ps : List Pair) → Listing (length ts) (At Apart ts) ps → SheetOf ts (sheet ts ps)
+pub data SheetOf (table : Trees) : List ℕ → Type 0 where
+  shows-pairs : (ps : List Pair) → Listing (length (table .trees)) (At (ApartAs (table .kind)) (table .trees)) ps → SheetOf table (sheet table ps)
 
 -- what the pair lister prints for the text s
 abbrev pub Sheet : List ℕ → List ℕ → Type 0
 Sheet s x = Printout SheetOf s x
 
--- lent to the sheet call: 220,902 bytes
+-- lent to the sheet call: 221,542 bytes
 abbrev pub sheetSlices : List ℕ → List Slice
 sheetSlices out = (sheetBytes, length out) ∷ []
 

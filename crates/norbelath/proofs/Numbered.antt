@@ -6,7 +6,9 @@ use mathlib.Core.List.{List, List·Memᴰ}
 use Prim.Native.Nat.{ℕ, _≤_}
 use lib.Dec.{T, leb, leb→le}
 use Rattle.meaning.specs.Lists.{every}
-use Rattle.meaning.specs.Tree.{Tree, form}
+use Rattle.meaning.specs.Tree.{Tree}
+use Rattle.meaning.specs.Kind.{Trees}
+use Rattle.meaning.specs.EitherKind.{formAs}
 use Rattle.meaning.specs.Move.{cutAt, forest}
 use Rattle.meaning.specs.Answer.{Answer, Outcome, TableMemory, GraphSize, GraphMemory, FirstsMemory, IslandsMemory, textOf, conclude}
 use Rattle.meaning.specs.Calls.{formCall, cutCall, PairCall, is-apart, not-apart, tableOf, tableCall, Lists, lists, InterchangeCall, ChoosingCall, IslandsCall, numbers}
@@ -30,27 +32,27 @@ module _ {A B M : Type 0} {P : A → Type 0} {Q : ℕ → ℕ → ℕ → Type 0
   concluded memory done (denies h) line value = line _ _ _ h
 
 pub form-numbered : (s out : List ℕ) → Numbered (formCall s out .answer)
-form-numbered s out = concluded out (λ t. textOf (form t) out) (form-tells s out) (λ n i p l. from-one tt (l .number)) (λ t. tt)
+form-numbered s out = concluded out (λ x. textOf (formAs (x .kind) (x .tree)) out) (form-tells s out) (λ n i p l. from-one tt (l .number)) (λ x. tt)
 
 pub cut-numbered : (s : List ℕ) (c : ℕ) (out : List ℕ) → Numbered (cutCall s c out .answer)
 cut-numbered s c out = concluded out (λ t. textOf (forest (cutAt t c)) out) (cut-tells s c out) (λ n i p l. from-one tt (l .number)) (λ t. tt)
 
 pub table-numbered : (s : List ℕ) (memory : TableMemory) → Numbered (tableCall s memory .answer)
-table-numbered s memory = concluded memory (λ ts. tableOf ts memory) (table-call-tells s memory) (λ n i p l. from-one tt (l .number)) (λ ts. tt)
+table-numbered s memory = concluded memory (λ table. tableOf table memory) (table-call-tells s memory) (λ n i p l. from-one tt (l .number)) (λ table. tt)
 
 pub support-numbered : (s : List ℕ) (memory : SupportMemory) → Numbered (supportCall s memory .answer)
-support-numbered s memory = concluded memory (λ ts. supportOf ts memory) (support-tells s memory) (λ n i p l. from-one tt (l .number)) (λ ts. tt)
+support-numbered s memory = concluded memory (λ table. supportOf (table .trees) memory) (support-tells s memory) (λ n i p l. from-one tt (l .number)) (λ table. tt)
 
 pub pair-numbered : {s s′ : List ℕ} {a : Answer Bool} → PairCall s s′ a → Numbered a
-pair-numbered (is-apart t u e h) = tt
-pair-numbered (not-apart t u e h) = tt
+pair-numbered (is-apart x y e h) = tt
+pair-numbered (not-apart x y e h) = tt
 pair-numbered {s} {s′} (PairCall.refuses n i p e) = from-one tt (tells-refusal (pair-tells s s′) e .number)
 
 -- a call that lists pairs, of what it reads
-lists-numbered : {M : Type 0} {P : List Tree → Type 0} {Q : ℕ → ℕ → ℕ → Type 0} {read : Answer (List Tree)} {Linked : List Tree → ℕ → ℕ → Type 0}
+lists-numbered : {M : Type 0} {P : Trees → Type 0} {Q : ℕ → ℕ → ℕ → Type 0} {read : Answer Trees} {Linked : Trees → ℕ → ℕ → Type 0}
     {left : List Tree → List Pair → Outcome GraphSize M} {memory : M} {o : Outcome GraphSize M}
     → ((ts : List Tree) (ps : List Pair) → Numbered (left ts ps .answer)) → Tells P Q read → ((n i p : ℕ) → Q n i p → 1 ≤ n) → Lists read Linked left memory o → Numbered (o .answer)
-lists-numbered value tells line (lists ts ps e L) = value ts ps
+lists-numbered value tells line (lists table ps e L) = value (table .trees) ps
 lists-numbered value tells line (Lists.refuses n i p e) = line n i p (tells-refusal tells e)
 
 pub interchange-numbered : (s : List ℕ) (memory : GraphMemory) {o : Outcome GraphSize GraphMemory} → InterchangeCall s memory o → Numbered (o .answer)
@@ -60,7 +62,7 @@ pub graph-numbered : (choice : Choice) (s : List ℕ) (memory : FirstsMemory) {o
 graph-numbered choice s memory h = lists-numbered (λ ts ps. tt) (firsts-tells s memory) (λ n i p l. from-one tt (l .number)) h
 
 pub islands-numbered : {s : List ℕ} {memory : IslandsMemory} {o : Outcome GraphSize IslandsMemory} → IslandsCall s memory o → Numbered (o .answer)
-islands-numbered (numbers ts ps ms e L I) = tt
+islands-numbered (numbers table ps ms e L I) = tt
 islands-numbered {s} {memory} (IslandsCall.refuses n i p e) = from-one tt (tells-refusal (islands-tells s memory) e .number)
 
 pub sheet-numbered : {s out : List ℕ} {o : Outcome ℕ (List ℕ)} → SheetCall s out o → Numbered (o .answer)

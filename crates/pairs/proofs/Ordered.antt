@@ -10,18 +10,20 @@ use Rattle.held.specs.Kept.{Kept}
 use Rattle.held.specs.declared.Tree.{Tree as Record}
 use Rattle.held.proofs.Kept.{keeps-holds, keeps-long}
 use Rattle.clades.specs.Marks.{Whole}
-use Rattle.pairs.specs.Ordered.{HeldInOrder}
+use Rattle.pairs.specs.Ordered.{InOrder, HeldInOrder}
 
 -- trees in canonical order that are equal up to the order of children are equal
 pub ordered-same : {t u : Tree} → Distinct t → Canonical t → Canonical u → t ≈ u → t ≡ u
 ordered-same {t} {u} D K L e = sym (canonical-canon t K) ∙ ≈-canon D e ∙ canonical-canon u L
 
+pub canon-in-order : (t : Tree) → Distinct t → InOrder (canon t)
+canon-in-order t D = record { distinct = canon-distinct t D; canonical = canon-canonical t D }
+
 -- a record keeps a tree in order
 pub kept-in-order : {tree : Record} → Kept tree → HeldInOrder (tree .node)
 kept-in-order p =
     let t = p .topology in
-    let D = p .keeps .good .distinct in
-    record { tree = canon t; holds = keeps-holds (p .keeps); in-order = record { distinct = canon-distinct t D; canonical = canon-canonical t D }; long = keeps-long (p .keeps) }
+    record { tree = canon t; holds = keeps-holds (p .keeps); in-order = canon-in-order t (p .keeps .good .distinct); long = keeps-long (p .keeps) }
 
 -- and a good one
 pub kept-whole : {tree : Record} → Kept tree → Whole (tree .node) maxNodes

@@ -3,16 +3,17 @@
 use mathlib.Core.Path.{_≡_, sym, ap, _∙_}
 use mathlib.Core.Bool.{Bool}
 use mathlib.Core.List.{List, [], _++_}
-use Prim.Native.Nat.{ℕ, _+_, _≤_, _<_}
+use Prim.Native.Nat.{ℕ, _+_, _-_, _≤_, _<_}
 use native.Mathlib.Decide.{decLe}
 use native.Mathlib.Nat.{add-zero}
 use native.Mathlib.Omega.{arith}
 use lib.ListN.{length, getD, List·getD-append}
 use lib.Seq.{getD-drop, ext-getD}
+use Rattle.meaning.specs.Limits.{maxNodes}
 use Rattle.meaning.specs.Tree.{Tree}
 use Rattle.held.specs.Held.{nodes, pre, Holds}
 use Rattle.held.proofs.Laws.{length-pre, twice, some-nodes, leafed, forked, inside, parted}
-use Rattle.lent.specs.Runs.{SameRun, Says}
+use Rattle.lent.specs.Runs.{SameRun, Common, Says}
 use Rattle.lent.proofs.Says.{says}
 
 -- the bytes of a held subtree
@@ -53,3 +54,19 @@ module _ {xs ys : List ℕ} {i j : ℕ} {s t : Tree} (g : Holds xs i s) (h : Hol
 
     pub run-says : (r : Bool) → Says r (SameRun xs i ys j w) → Says r (s ≡ t)
     run-says r = says (SameRun xs i ys j w) (s ≡ t) (λ all. run-same (same-width head) (rw wide at all)) (λ e. rw wide (same-run e)) r
+
+-- what the bytes in common tell of trees at one index
+module _ {xs ys : List ℕ} {same : ℕ} (C : Common xs ys maxNodes same) where
+  -- they are the same where the one is within these
+  pub common-same : {k : ℕ} {a c : Tree} → Holds xs k a → Holds ys k c → k + nodes a ≤ same → a ≡ c
+  common-same {k} {a} {c} g h fits =
+      let head : getD xs k 0 ≡ getD ys k 0 = C .same k (omega (arith, some-nodes a)) in
+      run-same g h (same-width g h head) (λ m lt. C .same (k + m) (omega arith))
+
+  -- and not where the first difference is within it
+  pub common-differ : {k : ℕ} {a c : Tree} → Holds xs k a → Holds ys k c → k ≤ same → same < k + nodes a → same < maxNodes → ¬ (a ≡ c)
+  common-differ {k} {a} {c} g h from to more e =
+      let m = same - k in
+      let at : k + m ≡ same = omega arith in
+      let equal = byte-is g m (omega arith) ∙ ap (λ (v : Tree). getD (pre v) m 0) e ∙ sym (byte-is h m (omega (arith, ap nodes e))) in
+      C .differ more (rw at at equal)

@@ -23,7 +23,7 @@ use Rattle.pairs.proofs.Children.{fork-held}
 use Rattle.pairs.proofs.Ordered.{ordered-same}
 
 -- ---- forks that are equal up to the order of children
-alike : {a b : Tree} → a ≡ b → a ≈ b
+pub alike : {a b : Tree} → a ≡ b → a ≈ b
 alike {a} e = subst (λ v. a ≈ v) e (≈-refl a)
 
 fork-ways : {a b c d : Tree} → fork a b ≈ fork c d → ((a ≈ c) × (b ≈ d)) ⊎ ((a ≈ d) × (b ≈ c))
@@ -95,7 +95,7 @@ pub record OnWay (xs : List ℕ) (p on off : ℕ) (r : Tree) : Type 0 where
   pub deeper : ¬ (p ≡ on) → Below p on taken × Forks (left p on taken) other r
 
 -- the children of a tree in order
-parts-in-order : {x y t : Tree} → Forks x y t → InOrder t → InOrder x × InOrder y × ((l : ℕ) → In l x → In l y → ⊥)
+pub parts-in-order : {x y t : Tree} → Forks x y t → InOrder t → InOrder x × InOrder y × ((l : ℕ) → In l x → In l y → ⊥)
 parts-in-order in-order D = (
   record { distinct = D .distinct .0; canonical = D .canonical .0 },
   record { distinct = D .distinct .1; canonical = D .canonical .1 },

@@ -19,7 +19,7 @@ use Rattle.reading.specs.declared.Step.{Step}
 use Rattle.reading.specs.declared.Refusal.{Refusal}
 use Rattle.reading.specs.declared.Step.the-variants.{Next, Refused}
 use Rattle.reading.proofs.Draft.{fits-more, seen-more, draft-more, seen-open, draft-open, closed-by}
-use Rattle.reading.proofs.Meet.{Accepted, Passed, meets-refused, token-then, token-behind}
+use Rattle.reading.proofs.Meet.{Accepted, Passed, meets-refused, byte-is, token-then, token-behind}
 use Rattle.reading.proofs.Steps.{then-got, step-next, step-ends, step-passed}
 
 -- what a node that was read adds to the draft
@@ -28,13 +28,13 @@ module _ {room : ℕ} (s : List ℕ) (p : ℕ) {node node′ : List ℕ} {marks 
   read-sound : Sound room s p (seen node at) (A .value) q
   read-sound = gives-got (sound room s p (seen node at)) (A .is)
 
-  next-draft : Draft node′ marks′ k room
+  pub next-draft : Draft node′ marks′ k room
   next-draft = rw (A .keeps .cells, A .count) (draft-more d (read-sound .good) (read-sound .new) (A .keeps .marked))
 
-  next-seen : seen node′ k ≡ seen node at ++ labels (A .value)
+  pub next-seen : seen node′ k ≡ seen node at ++ labels (A .value)
   next-seen = rw (A .keeps .cells, A .count) (seen-more d (read-sound .good) (read-sound .new))
 
-  next-in : k ≤ length node
+  pub next-in : k ≤ length node
   next-in = rw (A .count) (fits-more d (read-sound .good) (read-sound .new))
 
 -- ---- a fork, whose first node was asked for
@@ -125,22 +125,19 @@ module _ (s : List ℕ) (p room : ℕ) {node node₁ : List ℕ} {marks marks₁
 
 -- ---- a node, from the byte at its place
 module _ (s : List ℕ) (p : ℕ) {q b : ℕ} {digit : Bool} (e : q ≡ skip s p) (f : b ≡ getD s q 0) (g : digit ≡ isDigit b) where
-  byte-is : byteAt s (skip s p) ≡ b
-  byte-is = ap (λ (j : ℕ). getD s j 0) (sym e) ∙ sym f
-
-  digit-is : isDigit (byteAt s (skip s p)) ≡ digit
-  digit-is = ap isDigit byte-is ∙ sym g
+  pub digit-is : isDigit (byteAt s (skip s p)) ≡ digit
+  digit-is = ap isDigit (byte-is s p e f) ∙ sym g
 
   module _ (room : ℕ) {node node′ : List ℕ} {marks′ : List Bool} {at : ℕ} {r : Step} where
     pub via-label : digit ≡ true → Meets node node′ marks′ at (labelAt s q (seen node at)) r → Meets node node′ marks′ at (readNode room s p (seen node at)) r
     via-label h m = rw (node-label s p (seen node at) room (digit-is ∙ h), ← e) m
 
     pub via-deep : digit ≡ false → b ≡ 40 → room ≡ 0 → stepAnswer r ≡ refusal 4 0 q → length node′ ≡ length node → Meets node node′ marks′ at (readNode room s p (seen node at)) r
-    via-deep h k z m l = meets-refused (node-deep s p (seen node at) room (digit-is ∙ h) (byte-is ∙ k) z) (m ∙ ap (refusal 4 0) e) l
+    via-deep h k z m l = meets-refused (node-deep s p (seen node at) room (digit-is ∙ h) (byte-is s p e f ∙ k) z) (m ∙ ap (refusal 4 0) e) l
 
     pub via-fork : digit ≡ false → b ≡ 40 → (room ≡ 0 → ⊥)
         → Meets node node′ marks′ at (forkAt (readNode (room - 1) s) s (q + 1) (seen node at)) r → Meets node node′ marks′ at (readNode room s p (seen node at)) r
-    via-fork h k z m = rw (node-fork s p (seen node at) room (digit-is ∙ h) (byte-is ∙ k) z, ← e) m
+    via-fork h k z m = rw (node-fork s p (seen node at) room (digit-is ∙ h) (byte-is s p e f ∙ k) z, ← e) m
 
     pub via-wrong : digit ≡ false → (b ≡ 40 → ⊥) → stepAnswer r ≡ refusal 1 0 q → length node′ ≡ length node → Meets node node′ marks′ at (readNode room s p (seen node at)) r
-    via-wrong h k m l = meets-refused (node-bad s p (seen node at) room (digit-is ∙ h) (λ z. k (sym byte-is ∙ z))) (m ∙ ap (refusal 1 0) e) l
+    via-wrong h k m l = meets-refused (node-bad s p (seen node at) room (digit-is ∙ h) (λ z. k (sym (byte-is s p e f) ∙ z))) (m ∙ ap (refusal 1 0) e) l

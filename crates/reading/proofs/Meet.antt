@@ -38,10 +38,14 @@ module _ {g : Read Tree} {node node′ : List ℕ} {marks′ : List Bool} {at : 
   pub meets-refused : {n p : ℕ} → g ≡ refused n p → stepAnswer r ≡ refusal n 0 p → length node′ ≡ length node → Meets node node′ marks′ at g r
   meets-refused e h k = record { step = step-refused e h; same = k }
 
+-- ---- the byte behind the blanks at p, as it was asked for
+pub byte-is : (s : List ℕ) (p : ℕ) {q b : ℕ} → q ≡ skip s p → b ≡ getD s q 0 → byteAt s (skip s p) ≡ b
+byte-is s p e f = ap (λ (j : ℕ). getD s j 0) (sym e) ∙ sym f
+
 -- ---- a token
 module _ (b : ℕ) (s : List ℕ) (p : ℕ) where
   -- what follows it is read where it ends
-  pub token-then : (next : ℕ → Read Tree) → token b s p next ≡ andThen (tokenAt b s p) (λ u q. next q)
+  pub token-then : {A : Type 0} (next : ℕ → Read A) → token b s p next ≡ andThen (tokenAt b s p) (λ u q. next q)
   unfolding token
   token-then next = by (eqb (byteAt s (skip s p)) b)
     where

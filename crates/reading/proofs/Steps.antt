@@ -1,8 +1,8 @@
--- What a step that meets `Read` says: it goes on with what was accepted, or it refuses as reading does; and that a refusal is its three numbers.
+-- What a step that meets `Read` says: it goes on with what was accepted, or it refuses as reading does; that a refusal is its three numbers, and what a line behind a tree does.
 -- Assumes nothing.
-use mathlib.Core.Path.{_≡_, sym, ap, _∙_}
-use Prim.Native.Nat.{ℕ}
-use Rattle.meaning.specs.Reading.{Read, got, refused, andThen}
+use mathlib.Core.Path.{_≡_, refl, sym, ap, _∙_}
+use Prim.Native.Nat.{ℕ, zero, suc, _-_}
+use Rattle.meaning.specs.Reading.{Read, got, refused, andThen, orDiffers}
 use Rattle.meaning.specs.Answer.{Answer, refusal}
 use Rattle.meaning.proofs.Logic.{clash}
 use Rattle.reading.specs.Paper.{refusalOf, Going, goesOn, stepAnswer, StepMeets, goes-on, refuses}
@@ -27,6 +27,14 @@ going-is {p} {q} {k} {n} e =
 pub then-got : {A B : Type 0} {g : Read A} {x : A} {p : ℕ} (next : A → ℕ → Read B) → g ≡ got x p → andThen g next ≡ next x p
 then-got next e = rw e
 
+-- a line that says why a tree can't stand there ends reading at its `;`, and without one it goes on
+pub differs-ends : {A : Type 0} (n p : ℕ) (next : Read A) → (n ≡ 0 → ⊥) → orDiffers n p next ≡ refused n (p - 1)
+differs-ends zero p next h = absurd (h refl)
+differs-ends (suc n) p next h = refl
+
+pub differs-none : {A : Type 0} (n p : ℕ) (next : Read A) → n ≡ 0 → orDiffers n p next ≡ next
+differs-none n p next h = rw h
+
 -- what was accepted
 pub record Accepts {A : Type 0} (size : A → ℕ) (Keep : A → Type 0) (g : Read A) (p k : ℕ) : Type 0 where
   pub value : A
@@ -48,6 +56,12 @@ module _ {A : Type 0} {size : A → ℕ} {Keep : A → Type 0} where
   pub step-denied : {step : Step} {g : Read A} {x : Refusal} → StepMeets size Keep step g → step ≡ Refused x → (g ≡ refused (x .number) (x .place)) × (x .text ≡ 0)
   step-denied (goes-on x q h w) e = clash cc
   step-denied (refuses m q h) e = (cc, cc)
+
+  -- what was accepted is of another size, or kept in another way
+  pub step-map : {size′ : A → ℕ} {Keep′ : A → Type 0} {step : Step} {g : Read A}
+      → ((x : A) (p : ℕ) → g ≡ got x p → Keep x → (size x ≡ size′ x) × Keep′ x) → StepMeets size Keep step g → StepMeets size′ Keep′ step g
+  step-map f (goes-on x p h w) = let (e, k) = f x p refl w in goes-on x p (h ∙ ap (goesOn p) e) k
+  step-map f (refuses n p h) = refuses n p h
 
   -- a refusal stands
   pub step-ends : {B : Type 0} {size′ : B → ℕ} {Keep′ : B → Type 0} {step : Step} {g : Read A} {x : Refusal} (next : A → ℕ → Read B)

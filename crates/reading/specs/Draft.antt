@@ -3,10 +3,10 @@
 use mathlib.Core.Path.{_≡_}
 use mathlib.Core.Bool.{Bool, false}
 use mathlib.Core.List.{List, _++_}
-use Prim.Native.Nat.{ℕ, _+_, _-_, _*_, _≤_}
+use Prim.Native.Nat.{ℕ, _+_, _*_, _≤_}
 use lib.Seq.{sets}
 use lib.ListN.{length, take, getD}
-use Rattle.meaning.specs.Limits.{maxLabel, maxNodes, maxOpen}
+use Rattle.meaning.specs.Limits.{maxLabel, maxOpen}
 use Rattle.meaning.specs.Lists.{member, NoDup}
 use Rattle.meaning.specs.Tree.{Tree, labels}
 use Rattle.meaning.specs.Reading.{Read, got, token}
@@ -23,9 +23,9 @@ seen node at = labelsIn (take at node)
 abbrev pub tooLarge : ℕ
 tooLarge = maxLabel + 1
 
--- nodes of a text that may yet be refused: those of a tree, and forks that are open
+-- nodes of a text that may yet be refused: labels, as many forks that are closed, and forks that are open
 abbrev pub draftBytes : ℕ
-draftBytes = maxNodes + maxOpen
+draftBytes = 2 * maxLabel + maxOpen
 
 -- of each label its mark tells whether it is one of ls
 pub record Tells (marks : List Bool) (ls : List ℕ) : Type 0 where
@@ -33,11 +33,11 @@ pub record Tells (marks : List Bool) (ls : List ℕ) : Type 0 where
   pub each : (l : ℕ) → l ≤ maxLabel → getD marks l false ≡ member l ls
 
 -- a draft that a node can be read into at `at`, while `room` more brackets may open: none of its labels occurs
--- twice, the marks tell them, and each of its nodes is a label, a closed fork, fewer than the labels, or an open fork
+-- twice, the marks tell them, and each of its nodes is a label, a closed fork, as many as the labels at most, or an open fork
 pub record Draft (node : List ℕ) (marks : List Bool) (at room : ℕ) : Type 0 where
   pub size : length node ≡ draftBytes
   pub once : NoDup (seen node at)
-  pub fits : at + room ≤ 2 * length (seen node at) - 1 + maxOpen
+  pub fits : at + room ≤ 2 * length (seen node at) + maxOpen
   pub marked : Tells marks (seen node at)
 
 -- the node t is written over the draft from `at` on, and the marks tell its labels too

@@ -1,3 +1,4 @@
 pub mod Draft
+pub mod Opening
 pub mod Paper
 pub mod Whole

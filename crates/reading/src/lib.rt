@@ -1,14 +1,20 @@
-// Reads tree text: blanks, labels, nodes and forks, and a text of one tree.
+// Reads tree text: blanks, labels, nodes and forks; the modules read a mark, a top, a tree and a text of one tree.
+mod marks;
+mod tops;
+pub mod trees;
+
 use held::Tree;
+pub use trees::read_at;
+pub use trees::read_tree;
+pub use trees::untaken;
 ghost use mathlib.Core.Path.{_≡_};
 ghost use Prim.Native.Nat.{ℕ, min, suc, _+_, _-_, _/_, _≤_, _<_};
 ghost use lib.ListN.{getD};
 ghost use Rattle.meaning.specs.Limits.{maxLabel};
-ghost use Rattle.meaning.specs.Reading.{isBlank, isDigit, skip, runEnd, value, badLabel, forkAt, labelAt, readNode, treeAt, readTree};
+ghost use Rattle.meaning.specs.Reading.{isBlank, isDigit, skip, runEnd, value, badLabel, forkAt, labelAt, readNode};
 ghost use Rattle.meaning.specs.Answer.{refusal};
 ghost use Rattle.reading.specs.Draft.{tooLarge, draftBytes, seen, Draft, Meets, tokenAt, TokenMeets};
 ghost use Rattle.reading.specs.Paper.{stepAnswer};
-ghost use Rattle.reading.specs.Whole.{TreeMeets};
 
 // A line of the refusal list: its number, which text (0, or 1 for the second of a pair) and the place.
 pub struct Refusal {
@@ -35,6 +41,8 @@ impl Refusal {
     pub const LONG_TEXT: u8 = 8;
 
     pub const NO_SUCH_CUT: u8 = 9;
+
+    pub const OTHER_KIND: u8 = 10;
 }
 
 // Where reading goes on in the text and among the nodes, or why it ends.
@@ -47,6 +55,12 @@ pub enum Step {
 pub struct TreeRead {
     pub step: Step,
     pub tree: Tree,
+}
+
+// Which kinds of trees a call takes.
+pub enum Takes {
+    Either,
+    RootedOnly,
 }
 
 // A run of digits: where it ends, and its value or `TOO_LARGE`, whichever is less.
@@ -247,42 +261,4 @@ fn read_fork(
     };
     node[at] = fork_byte(at, end);
     expect_byte(s, p2, b')', end)
-}
-
-// The tree at `from`: a node and `;`.
-pub fn read_at(s: &[u8], from: usize) -> TreeRead
-    ensures { λ r. ⌜ TreeMeets r (treeAt (now (s .entry)) from) ⌝ }
-{
-    let mut node = [0u8; Tree::MAX_DRAFT];
-    let mut marks: Marks = [false; Run::TOO_LARGE];
-    let step = read_node(s, from, Tree::MAX_OPEN, &mut node, 0, &mut marks);
-    let Step::Next(p, nodes) = step else {
-        return TreeRead {
-            step,
-            tree: Tree::empty(),
-        };
-    };
-    TreeRead {
-        step: expect_byte(s, p, b';', nodes),
-        tree: Tree::canonical(&node),
-    }
-}
-
-// A text with exactly one tree: behind its `;` are blanks only.
-pub fn read_tree(s: &[u8]) -> TreeRead
-    ensures { λ r. ⌜ TreeMeets r (readTree (now (s .entry))) ⌝ }
-{
-    let read = read_at(s, 0);
-    let step = read.step;
-    let Step::Next(p, _) = step else {
-        return read;
-    };
-    let end = skip_blanks(s, p);
-    if end < s.len() {
-        return TreeRead {
-            step: refuse(Refusal::WRONG_BYTE, end),
-            tree: Tree::empty(),
-        };
-    }
-    read
 }

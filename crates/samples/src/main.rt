@@ -1,6 +1,7 @@
 // Runs the samples that are not proved ones, and the edges of the calls, and prints a line for each.
 mod clade_samples;
 mod listing_samples;
+mod unrooted_samples;
 
 use calls::PairAnswer;
 use calls::TableAnswer;
@@ -50,7 +51,7 @@ fn print_text(answer: TextAnswer, out: &[u8]) {
 }
 
 fn form(text: &[u8]) {
-    let mut out = [0u8; Tree::FORM_BYTES];
+    let mut out = [0u8; Tree::KIND_BYTES];
     print(b"form ");
     print(text);
     print(b" : ");
@@ -103,8 +104,8 @@ fn table(text: &[u8]) {
 
 // A slice one byte shorter than is asked for, with a text that would be refused too.
 fn short_slices() {
-    let mut form_bytes = [0u8; Tree::FORM_BYTES - 1];
-    print(b"308 bytes for a form : ");
+    let mut form_bytes = [0u8; Tree::KIND_BYTES - 1];
+    print(b"312 bytes for a form : ");
     let answer = calls::form_call(b"", &mut form_bytes);
     print_text(answer, &form_bytes);
     let mut forest_bytes = [0u8; Tree::FOREST_BYTES - 1];
@@ -116,7 +117,7 @@ fn short_slices() {
 fn long_texts() {
     let blanks = [b' '; Tree::TEXT_BYTES];
     let more = [b' '; Tree::TEXT_BYTES + 1];
-    let mut out = [0u8; Tree::FORM_BYTES];
+    let mut out = [0u8; Tree::KIND_BYTES];
     print(b"65,535 blanks : ");
     let answer = calls::form_call(&blanks, &mut out);
     print_text(answer, &out);
@@ -217,6 +218,7 @@ fn main() {
     cuts();
     pairs();
     tables();
+    unrooted_samples::all();
     listing_samples::graphs();
     clade_samples::supports();
     listing_samples::sheets();

@@ -4,7 +4,7 @@ use mathlib.Core.Path.{_≡_, sym, ap, _∙_}
 use mathlib.Core.List.{List}
 use Prim.Native.Nat.{ℕ}
 use lib.ListN.{length}
-use Rattle.meaning.specs.Tree.{Tree as Topology}
+use Rattle.meaning.specs.Kind.{Trees}
 use Rattle.meaning.specs.Answer.{written}
 use Rattle.meaning.specs.Sheet.{SheetOf}
 use Rattle.meaning.specs.IslandSheet.{IslandSheetOf}
@@ -12,7 +12,7 @@ use Rattle.meaning.proofs.Determined.{sheet-determined, island-sheet-determined
 use Rattle.sheet.specs.Printed.{Printed}
 
 -- where the bytes are the same
-printed-same : {Prints : List Topology → List ℕ → Type 0} {s out o₁ o₂ : List ℕ} {r₁ r₂ : ℕ} (p : Printed Prints s out o₁ r₁) (q : Printed Prints s out o₂ r₂)
+printed-same : {Prints : Trees → List ℕ → Type 0} {s out o₁ o₂ : List ℕ} {r₁ r₂ : ℕ} (p : Printed Prints s out o₁ r₁) (q : Printed Prints s out o₂ r₂)
     → p .bytes ≡ q .bytes → (o₁ ≡ o₂) × (r₁ ≡ r₂)
 printed-same {out} p q same = (
   p .memory ∙ ap (λ (x : List ℕ). written x out) same ∙ sym (q .memory),

@@ -13,15 +13,15 @@ use Rattle.meaning.specs.Limits.{maxTrees, islandSheetBytes}
 use Rattle.meaning.specs.Islands.{size}
 use Rattle.meaning.specs.IslandSheet.{islandLine, lineAt, islandLines, IslandSheetOf, shows-islands}
 use Rattle.meaning.specs.Answer.{GraphMemory}
-use Rattle.meaning.specs.Tree.{Tree as Topology}
-use Rattle.meaning.specs.Move.{Apart}
+use Rattle.meaning.specs.Kind.{Trees}
+use Rattle.meaning.specs.EitherKind.{ApartAs}
 use Rattle.meaning.proofs.Islands.{number-below}
 use Rattle.meaning.proofs.MergedIslands.{merged-together}
 use Rattle.lent.specs.Runs.{Wrote}
 use Rattle.lent.specs.Tallies.{TallyRoom, Tallied}
 use Rattle.lent.proofs.Runs.{sets-at, written-first, wrote-length}
 use Rattle.lent.proofs.Tallies.{count-le, zeros-room, zeros-tallied}
-use Rattle.held.specs.Kept.{KeepsAll}
+use Rattle.held.specs.Kept.{KeepsTrees}
 use Rattle.held.specs.declared.Table.{Table}
 use Rattle.graph.specs.Islands.{IslandsWritten}
 use Rattle.sheet.specs.Islands.{IslandLinesFit}
@@ -78,27 +78,32 @@ module _ {numbers : List ℕ} {n len : ℕ} (f : IslandLinesFit numbers n len) w
 
 -- ---- the islands of a table's trees, whose numbers were written into an array of zeros
 module _ {table : Table} {memory memory′ : GraphMemory} {firsts firsts′ numbers : List ℕ} {m : ℕ} (g : IslandsWritten table memory memory′ firsts firsts′ (replicate maxTrees 0) numbers m) where
-  module _ (ts : List Topology) (h : KeepsAll table ts) where
+  module _ (ts : Trees) (h : KeepsTrees table ts) where
     abbrev ms : List ℕ
     ms = g ts h .numbers
 
     many : length ms ≡ table .len
-    many = g ts h .found .many ∙ sym (h .count)
+    many = g ts h .found .many ∙ sym (h .all .count)
 
     fits : length ms ≤ length (replicate {A = ℕ} maxTrees 0)
-    fits = omega (arith, many, h .count, h .few, length-replicate {A = ℕ} maxTrees 0)
+    fits = omega (arith, many, h .all .count, h .all .few, length-replicate {A = ℕ} maxTrees 0)
 
     number-is : (i : ℕ) → i < table .len → getD numbers i 0 ≡ getD ms i 0
     number-is i l = ap (λ (xs : List ℕ). getD xs i 0) (g ts h .in-islands .cells) ∙ sets-at 0 (replicate maxTrees 0) ms fits i (omega (arith, many))
 
+    number-few : (i : ℕ) → i < table .len → getD ms i 0 < maxTrees
+    number-few i l =
+        let together = merged-together (ts .trees) (ApartAs (ts .kind)) (g ts h .merged .graph .listing) (g ts h .found) in
+        omega (arith, number-below together i (omega (arith, h .all .count)), h .all .count, h .all .few)
+
     numbered : take (table .len) numbers ≡ ms
-    numbered = ap (λ (k : ℕ). take k numbers) (h .count) ∙ written-first (g ts h .in-islands) (omega (arith, h .few, length-replicate {A = ℕ} maxTrees 0))
+    numbered = ap (λ (k : ℕ). take k numbers) (h .all .count) ∙ written-first (g ts h .in-islands) (omega (arith, h .all .few, length-replicate {A = ℕ} maxTrees 0))
 
     pub numbered-fits : {len : ℕ} → islandSheetBytes ≤ len → IslandLinesFit numbers (table .len) len
     numbered-fits room = record {
-      few = omega (arith, h .count, h .few);
+      few = omega (arith, h .all .count, h .all .few);
       lent = omega (arith, wrote-length (g ts h .in-islands), many, fits);
-      below = λ i l. omega (arith, number-is i l, number-below (merged-together ts Apart (g ts h .merged .graph .listing) (g ts h .found)) i (omega (arith, h .count)), h .few);
+      below = λ i l. omega (arith, number-is i l, number-few i l);
       room = room;
     }
 

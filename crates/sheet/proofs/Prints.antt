@@ -5,12 +5,12 @@ use mathlib.Core.List.{List}
 use Prim.Native.Nat.{ℕ, _≤_}
 use native.Mathlib.Omega.{arith}
 use lib.ListN.{length}
-use Rattle.meaning.specs.Tree.{Tree as Topology}
 use Rattle.meaning.specs.Calls.{tableRead}
+use Rattle.meaning.specs.Kind.{Trees, either}
 use Rattle.meaning.specs.Sheet.{refusalLine, Printout, prints}
 use Rattle.lent.specs.Runs.{Wrote}
 use Rattle.lent.proofs.Runs.{sets-start, wrote-length}
-use Rattle.held.specs.Kept.{KeepsAll}
+use Rattle.held.specs.Kept.{KeepsTrees}
 use Rattle.tables.specs.Lent.{TableLent}
 use Rattle.reading.specs.declared.Refusal.{Refusal}
 use Rattle.reading.specs.declared.Step.the-variants.{Next, Refused}
@@ -19,7 +19,7 @@ use Rattle.tables.proofs.Lent.{Given, lent-next, lent-refused}
 use Rattle.sheet.specs.Printed.{TableFits, ShownAll, Printed}
 
 -- a program prints at most `most` bytes, of which there is room
-module _ {Prints : List Topology → List ℕ → Type 0} {most : ℕ} (s out : List ℕ) (room : most ≤ length out) (fits : (x : List ℕ) → Printout Prints s x → length x ≤ most) where
+module _ {Prints : Trees → List ℕ → Type 0} {most : ℕ} (s out : List ℕ) (room : most ≤ length out) (fits : (x : List ℕ) → Printout Prints s x → length x ≤ most) where
   printed : {x out′ : List ℕ} {r : ℕ} → Printout Prints s x → Wrote x out out′ 0 r → Printed Prints s out out′ r
   printed {x} h w = record {
     bytes = x;
@@ -29,7 +29,7 @@ module _ {Prints : List Topology → List ℕ → Type 0} {most : ℕ} (s out : 
     memory = w .cells ∙ sets-start out x (omega (arith, fits x h, room));
   }
 
-  module _ {read : TableRead} (m : TableLent read (tableRead s)) where
+  module _ {read : TableRead} (m : TableLent read (tableRead either s)) where
     -- a text that is refused
     module _ {x : Refusal} (e : read .step ≡ Refused x) where
       refused-prints : Printout Prints s (refusalLine (x .number) (x .place))
@@ -43,7 +43,7 @@ module _ {Prints : List Topology → List ℕ → Type 0} {most : ℕ} (s out : 
 
     -- the trees of a text that is accepted
     module _ {p k : ℕ} (e : read .step ≡ Next p k) where
-      taken : Given length (KeepsAll (read .table)) (tableRead s) k
+      taken : Given (λ ts. length (ts .trees)) (KeepsTrees (read .table)) (tableRead either s) k
       taken = lent-next m e
 
       pub table-fits : TableFits (read .table) most (length out)

@@ -1,4 +1,4 @@
--- The longest sheets: numbers below 1000 and 100,000 have at most three and five digits, and a canonical text at most 309 bytes. So what is printed fits into what is lent.
+-- The longest sheets: numbers below 1000 and 100,000 have at most three and five digits, and a canonical text at most 313 bytes. So what is printed fits into what is lent.
 -- Assumes nothing.
 use mathlib.Core.Path.{_≡_, ap}
 use mathlib.Core.Bool.{Bool, true, false, cond}
@@ -10,8 +10,9 @@ use lib.Dec.{eqb, leb, leb→le}
 use lib.ListN.{length, length-append}
 use Rattle.meaning.specs.Limits.{textBytes, maxTrees, firstLineBytes, treeLineBytes, pairLineBytes, sheetBytes, islandLineBytes, islandSheetBytes}
 use Rattle.meaning.specs.Bytes.{bytes}
-use Rattle.meaning.specs.Tree.{Tree as Topology, digits, AllGood}
-use Rattle.meaning.specs.Move.{Apart}
+use Rattle.meaning.specs.Tree.{digits, AllGood}
+use Rattle.meaning.specs.Kind.{Trees, either}
+use Rattle.meaning.specs.EitherKind.{ApartAs}
 use Rattle.meaning.specs.Listing.{Pair, Listing, At, neighbours, unlinked}
 use Rattle.meaning.specs.Answer.{refusal, Outcome}
 use Rattle.meaning.specs.Calls.{tableRead}
@@ -22,11 +23,11 @@ use Rattle.meaning.proofs.Lists.{every-mem}
 use Rattle.meaning.proofs.Lent.{eight}
 use Rattle.meaning.proofs.Calls.{tells-accepted, tells-refusal, table-tells}
 use Rattle.meaning.proofs.Determined.{same-refusal}
-use Rattle.meaning.proofs.Memory.{sheet-memory}
-use Rattle.meaning.proofs.Unlinked.{unlinked-neighbours-copies}
+use Rattle.meaning.proofs.Memory.{given-few, sheet-memory}
 use Rattle.meaning.proofs.Counts.{listing-few}
 use Rattle.meaning.proofs.Digits.{digits-one}
-use Rattle.meaning.proofs.Length.{form-length}
+use Rattle.meaning.proofs.EitherKind.{form-lengthAs}
+use Rattle.meaning.proofs.Unlinked.{unlinked-neighbours-copies}
 use Rattle.lent.proofs.Tallies.{count-le}
 use Rattle.writing.proofs.Laws.{length-digits}
 use Rattle.writing.proofs.Lines.{two-length, tree-length}
@@ -62,19 +63,19 @@ refusal-short n p h l = omega (arith, two-length (bytes "refused ") n (bytes " a
 pair-short : (i j : ℕ) → i < 1000 → j < 1000 → length (pairLine i j) ≤ pairLineBytes
 pair-short i j h l = omega (arith, two-length (bytes "pair ") i (bytes " ") j, three i h, three j l)
 
-module _ (ts : List Topology) (ps : List Pair) (G : AllGood ts) (L : Listing (length ts) (At Apart ts) ps) (few : length ts ≤ maxTrees) where
-  trees-short : length (treeLines ts ps 0 ts) ≤ treeLineBytes * length ts
+module _ (ts : Trees) (ps : List Pair) (G : AllGood (ts .trees)) (L : Listing (length (ts .trees)) (At (ApartAs (ts .kind)) (ts .trees)) ps) (few : length (ts .trees) ≤ maxTrees) where
+  trees-short : length (treeLines ts ps 0 (ts .trees)) ≤ treeLineBytes * length (ts .trees)
   trees-short =
-      rw trees-rows (rows-length (treeLineOf ts ps) treeLineBytes 0 ts λ i t m h.
-      let inside : i < length ts = omega arith in
-      let all = unlinked-neighbours-copies ts G L i inside in
+      rw trees-rows (rows-length (treeLineOf ts ps) treeLineBytes 0 (ts .trees) λ i t m h.
+      let inside : i < length (ts .trees) = omega arith in
+      let all = unlinked-neighbours-copies (ts .kind) (ts .trees) G L i inside in
       omega (
         arith,
-        tree-length i (neighbours ps i) (unlinked ts ps i) t,
+        tree-length (ts .kind) i (neighbours ps i) (unlinked (ts .trees) ps i) t,
         three i (omega arith),
         three (neighbours ps i) (omega arith),
-        three (unlinked ts ps i) (omega arith),
-        form-length (good-one ts G m),
+        three (unlinked (ts .trees) ps i) (omega arith),
+        form-lengthAs (ts .kind) (good-one (ts .trees) G m),
       ))
 
   pairs-short : length (pairLines ps) ≤ pairLineBytes * length ps
@@ -85,25 +86,25 @@ module _ (ts : List Topology) (ps : List Pair) (G : AllGood ts) (L : Listing (le
 
   pub sheet-short : length (sheet ts ps) ≤ sheetBytes
   unfolding sheet
-  sheet-short = simp length-append (omega (arith, first-short (length ts) (length ps) few (listing-few L few), trees-short, pairs-short, listing-few L few))
+  sheet-short = simp length-append (omega (arith, first-short (length (ts .trees)) (length ps) few (listing-few L few), trees-short, pairs-short, listing-few L few))
 
 -- a refusal's place is 0 where the text is too long, and else in the text or its end
-place-short : (s : List ℕ) {n i p : ℕ} → tableRead s ≡ refusal n i p → p ≤ textBytes
+place-short : (s : List ℕ) {n i p : ℕ} → tableRead either s ≡ refusal n i p → p ≤ textBytes
 place-short s {p} e = by (decLe (length s) textBytes)
   where
     by : Dec (length s ≤ textBytes) → p ≤ textBytes
-    by (yes h) = omega (arith, tells-refusal (table-tells s) e .place)
+    by (yes h) = omega (arith, tells-refusal (table-tells either s) e .place)
     by (no h) = omega (arith, same-refusal (eight 0 s _ (omega arith)) e .2)
 
--- and its number is at most 8
-refusal-fits : (s : List ℕ) {n i p : ℕ} → tableRead s ≡ refusal n i p → length (refusalLine n p) ≤ 21
+-- and its number is at most 10
+refusal-fits : (s : List ℕ) {n i p : ℕ} → tableRead either s ≡ refusal n i p → length (refusalLine n p) ≤ 21
 refusal-fits s {n} {i} {p} e =
-    let small = leb→le n 8 (every-mem (λ (m : ℕ). leb m 8) tt (tells-refusal (table-tells s) e .number)) in
+    let small = leb→le n 10 (every-mem (λ (m : ℕ). leb m 10) tt (tells-refusal (table-tells either s) e .number)) in
     refusal-short n p (omega arith) (omega (arith, place-short s e))
 
 -- what is printed for any text
 pub sheet-fits : {s x : List ℕ} → Sheet s x → length x ≤ sheetBytes
-sheet-fits {s} (prints ts x e (shows-pairs ps L)) = let r = tells-accepted (table-tells s) e in sheet-short ts ps (r .0) L (r .1 .few)
+sheet-fits {s} (prints ts x e (shows-pairs ps L)) = let r = tells-accepted (table-tells either s) e in sheet-short ts ps (r .good) L (given-few r)
 sheet-fits {s} (Printout.refuses n i p e) = omega (arith, refusal-fits s e)
 
 -- ---- islands
@@ -123,7 +124,7 @@ islands-short ms few =
     rw lines-rows (omega (arith, rows-length (lineAt ms) islandLineBytes 0 ms (λ i x m h. line-short ms i x (omega arith) (omega arith)), few))
 
 pub island-sheet-fits : {s x : List ℕ} → IslandSheet s x → length x ≤ islandSheetBytes
-island-sheet-fits {s} (prints ts x e (shows-islands ps ms L I)) = islands-short ms (omega (arith, I .many, tells-accepted (table-tells s) e .1 .few))
+island-sheet-fits {s} (prints ts x e (shows-islands ps ms L I)) = islands-short ms (omega (arith, I .many, given-few (tells-accepted (table-tells either s) e)))
 island-sheet-fits {s} (Printout.refuses n i p e) = omega (arith, refusal-fits s e)
 
 -- so the sheet call keeps the length of what it is lent

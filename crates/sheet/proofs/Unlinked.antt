@@ -10,17 +10,19 @@ use lib.Seq.{take-at}
 use Rattle.meaning.specs.Limits.{maxTrees}
 use Rattle.meaning.specs.Lists.{count, positions}
 use Rattle.meaning.specs.Tree.{Tree as Topology}
+use Rattle.meaning.specs.Kind.{Trees}
 use Rattle.meaning.specs.Listing.{Pair, copies, unlinked}
 use Rattle.meaning.proofs.Sums.{map-length, map-at}
-use Rattle.meaning.proofs.Unlinked.{unlinked-neighbours-copies}
 use Rattle.lent.specs.Runs.{Wrote}
 use Rattle.lent.specs.Tallies.{TallyRoom, Tallied}
 use Rattle.lent.proofs.Runs.{sets-at}
 use Rattle.lent.proofs.Tallies.{zeros-room, zeros-tallied}
 use Rattle.meaning.specs.Copies.{firstOf, firstsOf}
-use Rattle.held.proofs.Kept.{keeps-good}
 use Rattle.meaning.proofs.Copies.{first-le, copies-firsts}
+use Rattle.meaning.proofs.Unlinked.{unlinked-neighbours-copies}
+use Rattle.held.specs.Kept.{KeepsAll}
 use Rattle.held.specs.declared.Table.{Table}
+use Rattle.held.proofs.Kept.{keeps-good}
 use Rattle.sheet.specs.Lines.{TreesListed}
 use Rattle.sheet.proofs.Listed.{counted}
 
@@ -41,32 +43,38 @@ module _ (f : ℕ → ℕ) {k : ℕ} {xs : List ℕ} (few : k ≤ maxTrees) (w :
       ap (λ (l : List ℕ). getD l i 0) (w .cells) ∙ sets-at 0 zeros (map f (positions k)) fits i (omega (arith, map-length f k)) ∙ map-at f k i h
 
 -- the firsts of the table's trees are counted
-module _ {table : Table} {numbers firsts : List ℕ} {ts : List Topology} {ps : List Pair} (L : TreesListed table numbers firsts ts ps) where
-  firsts-many : length (firstsOf ts) ≡ length ts
-  firsts-many = map-length (firstOf ts) (length ts)
+module _ {table : Table} {numbers firsts : List ℕ} {ts : Trees} {ps : List Pair} (L : TreesListed table numbers firsts ts ps) where
+  abbrev us : List Topology
+  us = ts .trees
 
-  pub firsts-long : length ts ≤ length firsts
-  firsts-long = omega (arith, ap length (L .noted .1), length-append (firstsOf ts) (L .noted .0), firsts-many)
+  abbrev kept : KeepsAll table us
+  kept = L .keeps .all
 
-  pub first-at : (i : ℕ) → i < length ts → getD firsts i 0 ≡ firstOf ts i
+  firsts-many : length (firstsOf us) ≡ length us
+  firsts-many = map-length (firstOf us) (length us)
+
+  pub firsts-long : length us ≤ length firsts
+  firsts-long = omega (arith, ap length (L .noted .1), length-append (firstsOf us) (L .noted .0), firsts-many)
+
+  pub first-at : (i : ℕ) → i < length us → getD firsts i 0 ≡ firstOf us i
   first-at i h =
-      ap (λ (xs : List ℕ). getD xs i 0) (L .noted .1) ∙ List·getD-append (firstsOf ts) (L .noted .0) 0 i (omega (arith, firsts-many)) ∙ map-at (firstOf ts) (length ts) i h
+      ap (λ (xs : List ℕ). getD xs i 0) (L .noted .1) ∙ List·getD-append (firstsOf us) (L .noted .0) 0 i (omega (arith, firsts-many)) ∙ map-at (firstOf us) (length us) i h
 
-  pub first-few : (i : ℕ) → i < length ts → getD firsts i 0 < maxTrees
-  first-few i h = omega (arith, first-at i h, first-le ts i h, L .keeps .few)
+  pub first-few : (i : ℕ) → i < length us → getD firsts i 0 < maxTrees
+  first-few i h = omega (arith, first-at i h, first-le us i h, kept .few)
 
   pub tally-room : TallyRoom zeros firsts (table .len)
-  tally-room = zeros-room maxTrees (omega (arith, firsts-long, L .keeps .count)) (omega (arith, L .keeps .count, L .keeps .few)) (λ i h. first-few i (omega (arith, L .keeps .count)))
+  tally-room = zeros-room maxTrees (omega (arith, firsts-long, kept .count)) (omega (arith, kept .count, kept .few)) (λ i h. first-few i (omega (arith, kept .count)))
 
-  module _ {tallies : List ℕ} (t : Tallied (take (table .len) firsts) zeros tallies) (i : ℕ) (h : i < length ts) where
-    taken : take (table .len) firsts ≡ firstsOf ts
-    taken = ap (take (table .len)) (L .noted .1) ∙ take-at (firstsOf ts) (L .noted .0) (table .len) (firsts-many ∙ sym (L .keeps .count))
+  module _ {tallies : List ℕ} (t : Tallied (take (table .len) firsts) zeros tallies) (i : ℕ) (h : i < length us) where
+    taken : take (table .len) firsts ≡ firstsOf us
+    taken = ap (take (table .len)) (L .noted .1) ∙ take-at (firstsOf us) (L .noted .0) (table .len) (firsts-many ∙ sym (kept .count))
 
-    pub copies-at : getD tallies (getD firsts i 0) 0 ≡ copies ts i
+    pub copies-at : getD tallies (getD firsts i 0) 0 ≡ copies us i
     copies-at =
-        ap (λ (x : ℕ). getD tallies x 0) (first-at i h) ∙ zeros-tallied maxTrees t (firstOf ts i)
-        ∙ omega (arith, ap (count (λ y. eqb y (firstOf ts i))) taken, copies-firsts ts i h)
+        ap (λ (x : ℕ). getD tallies x 0) (first-at i h) ∙ zeros-tallied maxTrees t (firstOf us i)
+        ∙ omega (arith, ap (count (λ y. eqb y (firstOf us i))) taken, copies-firsts us i h)
 
     -- what is left of all trees
-    pub rest-at : unlinked ts ps i + getD numbers i 0 + getD tallies (getD firsts i 0) 0 ≡ table .len
-    rest-at = omega (arith, counted L i (omega (arith, L .keeps .count)), copies-at, unlinked-neighbours-copies ts (keeps-good (L .keeps)) (L .listing) i h, L .keeps .count)
+    pub rest-at : unlinked us ps i + getD numbers i 0 + getD tallies (getD firsts i 0) 0 ≡ table .len
+    rest-at = omega (arith, counted L i (omega (arith, kept .count)), copies-at, unlinked-neighbours-copies (ts .kind) (ts .trees) (keeps-good kept) (L .listing) i h, kept .count)

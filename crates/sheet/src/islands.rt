@@ -1,6 +1,7 @@
 // The sheet of islands: a line for each island of a table's trees.
 use held::Table;
 use reading::Step;
+use reading::Takes;
 ghost use lib.ListN.{length, take};
 ghost use Rattle.meaning.specs.Limits.{islandSheetBytes};
 ghost use Rattle.meaning.specs.IslandSheet.{islandLines, IslandSheetOf};
@@ -52,7 +53,7 @@ fn write_table_islands(out: &mut [u8], table: Table) -> usize
 pub fn print_islands(s: &[u8], out: &mut [u8; IslandSheet::MAX_BYTES]) -> usize
     ensures { λ r. ⌜ Printed IslandSheetOf (now (s .entry)) (now (out .entry)) (now (out .exit)) r ⌝ }
 {
-    let read = tables::read_lent_table(s, true);
+    let read = tables::read_lent_table(s, true, Takes::Either);
     let step = read.step;
     match step {
         Step::Refused(x) => super::print_refusal(out, x),

@@ -7,14 +7,14 @@ use held::Tree;
 pub use islands::IslandSheet;
 pub use islands::print_islands;
 use links::Copies;
-use links::Link;
 use reading::Refusal;
 use reading::Step;
+use reading::Takes;
 ghost use mathlib.Core.List.{List};
 ghost use Prim.Native.Nat.{_≤_};
 ghost use lib.ListN.{length};
 ghost use Rattle.meaning.specs.Limits.{sheetBytes};
-ghost use Rattle.meaning.specs.Tree.{Tree as Topology};
+ghost use Rattle.meaning.specs.Kind.{Trees};
 ghost use Rattle.meaning.specs.Listing.{Pair};
 ghost use Rattle.meaning.specs.Sheet.{refusalLine, treeLines, pairLines, sheet, SheetOf};
 ghost use Rattle.lent.specs.Runs.{Wrote};
@@ -29,7 +29,7 @@ impl Sheet {
     // Bytes of the longest first line, of the longest line of a tree, and of a pair.
     const FIRST_LINE: usize = 22;
 
-    const TREE_LINE: usize = 38 + Tree::FORM_BYTES;
+    const TREE_LINE: usize = 38 + Tree::KIND_BYTES;
 
     const PAIR_LINE: usize = 13;
 
@@ -44,8 +44,8 @@ impl Sheet {
 fn note_unlinked(unlinked: &mut [u16], counts: &[u16], firsts: &[u16], table: Table)
     requires { ⌜ UnlinkedRoom table (now counts) (now firsts) (length (now unlinked)) ⌝ }
     ensures { λ _. ⌜
-        ((ts : List Topology) (ps : List Pair) → TreesListed table (now (counts .entry)) (now (firsts .entry)) ts ps
-        → Wrote (unlinkedNumbers ts ps) (now (unlinked .entry)) (now (unlinked .exit)) 0 (length ts)) ⌝ }
+        ((ts : Trees) (ps : List Pair) → TreesListed table (now (counts .entry)) (now (firsts .entry)) ts ps
+        → Wrote (unlinkedNumbers (ts .trees) ps) (now (unlinked .entry)) (now (unlinked .exit)) 0 (length (ts .trees))) ⌝ }
 {
     let n = table.len;
     let mut copies = [0u16; Table::MAX_TREES];
@@ -68,8 +68,8 @@ fn write_tree_lines(
 ) -> usize
     requires { ⌜ TreeLinesFit table (now counts) (now firsts) at (length (now out)) ⌝ }
     ensures { λ r. ⌜
-        ((ts : List Topology) (ps : List Pair) → TreesListed table (now (counts .entry)) (now (firsts .entry)) ts ps
-        → Wrote (treeLines ts ps 0 ts) (now (out .entry)) (now (out .exit)) at r) ⌝ }
+        ((ts : Trees) (ps : List Pair) → TreesListed table (now (counts .entry)) (now (firsts .entry)) ts ps
+        → Wrote (treeLines ts ps 0 (ts .trees)) (now (out .entry)) (now (out .exit)) at r) ⌝ }
 {
     let mut unlinked = [0u16; Table::MAX_TREES];
     note_unlinked(&mut unlinked, counts, firsts, table);
@@ -111,7 +111,7 @@ fn write_sheet(
 ) -> usize
     requires { ⌜ SheetFits table (now pairs) (now counts) (now firsts) m (length (now out)) ⌝ }
     ensures { λ r. ⌜
-        ((ts : List Topology) (ps : List Pair) → TreesListed table (now (counts .entry)) (now (firsts .entry)) ts ps → PairsListed (now (pairs .entry)) m ps
+        ((ts : Trees) (ps : List Pair) → TreesListed table (now (counts .entry)) (now (firsts .entry)) ts ps → PairsListed (now (pairs .entry)) m ps
         → Wrote (sheet ts ps) (now (out .entry)) (now (out .exit)) 0 r) ⌝ }
 {
     let trees = writing::write_first_line(out, 0, table.len, m);
@@ -127,12 +127,11 @@ fn write_table_sheet(out: &mut [u8], table: Table) -> usize
     let mut pairs = [0u16; Table::PAIR_NUMBERS];
     let mut counts = [0u16; Table::MAX_TREES];
     let mut firsts = [0u16; Table::MAX_TREES];
-    let m = graph::list_pairs(
+    let m = graph::list_moves(
         &mut pairs,
         &mut counts,
         &mut firsts,
         table,
-        Link::Move,
         Copies::KeptApart,
     );
     write_sheet(out, table, &pairs, &counts, &firsts, m)
@@ -151,7 +150,7 @@ pub fn print_sheet(s: &[u8], out: &mut [u8]) -> usize
     requires { ⌜ sheetBytes ≤ length (now out) ⌝ }
     ensures { λ r. ⌜ Printed SheetOf (now (s .entry)) (now (out .entry)) (now (out .exit)) r ⌝ }
 {
-    let read = tables::read_lent_table(s, true);
+    let read = tables::read_lent_table(s, true, Takes::Either);
     let step = read.step;
     match step {
         Step::Refused(x) => print_refusal(out, x),

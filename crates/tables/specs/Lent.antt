@@ -1,16 +1,15 @@
 -- What a call reads of its text, once its lent slices are measured.
 -- Assumes nothing.
 use mathlib.Core.Path.{_≡_}
-use mathlib.Core.List.{List}
 use mathlib.Core.Bool.{Bool, true, false, cond}
 use Prim.Native.Nat.{ℕ}
 use lib.Dec.{ltb}
 use lib.ListN.{length}
 use Rattle.meaning.specs.Limits.{textBytes}
-use Rattle.meaning.specs.Tree.{Tree as Topology}
+use Rattle.meaning.specs.Kind.{Kinded, Trees}
 use Rattle.meaning.specs.Answer.{Answer, accepted, refusal}
 use Rattle.held.specs.Held.{nodes}
-use Rattle.held.specs.Kept.{Keeps, KeepsAll}
+use Rattle.held.specs.Kept.{KeepsKind, KeepsTrees}
 use Rattle.reading.specs.Paper.{goesOn, stepAnswer}
 use Rattle.reading.specs.declared.Step.{Step}
 use Rattle.reading.specs.declared.TreeRead.{TreeRead}
@@ -27,9 +26,9 @@ pub data LentMeets {A : Type 0} (size : A → ℕ) (Keep : A → Type 0) (step :
   denies : (n i p : ℕ) → stepAnswer step ≡ refusal n i p → LentMeets size Keep step (refusal n i p)
 
 -- of a tree, its nodes
-abbrev pub TreeLent : TreeRead → Answer Topology → Type 0
-TreeLent r a = LentMeets nodes (Keeps (r .tree)) (r .step) a
+abbrev pub TreeLent : TreeRead → Answer Kinded → Type 0
+TreeLent r a = LentMeets (λ x. nodes (x .tree)) (KeepsKind (r .tree)) (r .step) a
 
 -- of a table, its trees
-abbrev pub TableLent : TableRead → Answer (List Topology) → Type 0
-TableLent r a = LentMeets length (KeepsAll (r .table)) (r .step) a
+abbrev pub TableLent : TableRead → Answer Trees → Type 0
+TableLent r a = LentMeets (λ ts. length (ts .trees)) (KeepsTrees (r .table)) (r .step) a

@@ -3,11 +3,13 @@ use super::TableRead;
 use held::Table;
 use held::Tree;
 use reading::Refusal;
+use reading::Takes;
 use reading::TreeRead;
 ghost use mathlib.Core.Path.{_≡_};
 ghost use lib.ListN.{length};
 ghost use Rattle.meaning.specs.Reading.{readTree};
 ghost use Rattle.meaning.specs.Calls.{lent, limited, answered, tableRead};
+ghost use Rattle.reading.specs.Whole.{takesOf};
 ghost use Rattle.tables.specs.Lent.{withheld, TreeLent, TableLent};
 
 // The line for which a call reads nothing of s: its slices are too short, or s is too long. 0 where it reads.
@@ -24,8 +26,8 @@ fn withheld(s: &[u8], fits: bool) -> u8
 }
 
 // The one tree of s, for a call that is lent enough or not.
-pub fn read_lent(s: &[u8], fits: bool) -> TreeRead
-    ensures { λ r. ⌜ TreeLent r (lent fits (limited 0 (now (s .entry)) (answered 0 (readTree (now (s .entry)))))) ⌝ }
+pub fn read_lent(s: &[u8], fits: bool, takes: Takes) -> TreeRead
+    ensures { λ r. ⌜ TreeLent r (lent fits (limited 0 (now (s .entry)) (answered 0 (readTree (takesOf takes) (now (s .entry)))))) ⌝ }
 {
     let line = withheld(s, fits);
     if line != 0 {
@@ -34,12 +36,12 @@ pub fn read_lent(s: &[u8], fits: bool) -> TreeRead
             tree: Tree::empty(),
         };
     }
-    reading::read_tree(s)
+    reading::read_tree(s, takes)
 }
 
 // The trees of s, for a call that is lent enough or not.
-pub fn read_lent_table(s: &[u8], fits: bool) -> TableRead
-    ensures { λ r. ⌜ TableLent r (lent fits (tableRead (now (s .entry)))) ⌝ }
+pub fn read_lent_table(s: &[u8], fits: bool, takes: Takes) -> TableRead
+    ensures { λ r. ⌜ TableLent r (lent fits (tableRead (takesOf takes) (now (s .entry)))) ⌝ }
 {
     let line = withheld(s, fits);
     if line != 0 {
@@ -48,5 +50,5 @@ pub fn read_lent_table(s: &[u8], fits: bool) -> TableRead
             table: Table::empty(),
         };
     }
-    super::read_table(s)
+    super::read_table(s, takes)
 }

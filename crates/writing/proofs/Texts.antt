@@ -1,18 +1,18 @@
--- Canonical texts and forest texts of a tree that is kept.
+-- Forest texts of a tree that is kept.
 -- Assumes nothing.
 use mathlib.Core.Path.{_≡_, sym, ap, subst, _∙_}
 use mathlib.Core.List.{List, [], _∷_, _++_, append-assoc}
 use Prim.Native.Nat.{ℕ, _+_, _*_, _-_, _<_}
 use native.Mathlib.Omega.{arith}
 use lib.ListN.{length, length-append}
-use Rattle.meaning.specs.Tree.{Tree, fork, In, Good, leaves, canon, write, form}
+use Rattle.meaning.specs.Tree.{Tree, fork, In, Good, leaves, canon, write}
 use Rattle.meaning.specs.Move.{Cut, cuts, cutAt, forest}
 use Rattle.meaning.proofs.Canon.{canon-canonical, canonical-canon}
 use Rattle.meaning.proofs.Forests.{cuts-canon, cutAt-good}
 use Rattle.lent.specs.Runs.{Wrote}
 use Rattle.lent.proofs.Runs.{wrote-more, wrote-length}
 use Rattle.held.specs.Held.{Holds, Room, HasCut, hold, cutIn}
-use Rattle.held.specs.Kept.{Keeps, KeptRoom}
+use Rattle.held.specs.Kept.{Keeps}
 use Rattle.held.specs.declared.Tree.{Tree as Record}
 use Rattle.held.proofs.Laws.{unique}
 use Rattle.held.proofs.Canon.{leaves-canon}
@@ -24,12 +24,6 @@ use Rattle.writing.specs.Writing.{ForestFits}
 good-second : {a b : Tree} → Good (fork a b) → Good b
 good-second G = record { distinct = G .distinct .1; small = λ l i. G .small l (In.second i) }
 
--- the canonical text, with its semicolon
-pub room-form : {tree : Record} {len : ℕ} (at : ℕ) → KeptRoom (λ t. at + length (form t)) tree len → Room (λ t. at + length (write t) + 1) (tree .node) 0 len
-room-form at f =
-    let t = canon (f .topology) in
-    record { tree = t; holds = keeps-holds (f .keeps); room = omega (arith, f .room, length-append (write t) (59 ∷ [])) }
-
 -- what a cut leaves of the tree and what it takes away, in canonical order
 module _ {tree : Record} {t : Tree} (k : Keeps tree t) {c : ℕ} (h : c < 2 * leaves t - 2) where
   is-cut : c < length (cuts (canon t))
@@ -38,9 +32,9 @@ module _ {tree : Record} {t : Tree} (k : Keeps tree t) {c : ℕ} (h : c < 2 * le
   has-cut : HasCut (tree .node) c
   has-cut = record { tree = canon t; holds = keeps-holds k; is-cut = is-cut }
 
-  left-holds : {left : Record} → ((u : Tree) → Holds (tree .node) 0 u → left .node ≡ hold (canon (cutIn u c .rest))) → Holds (left .node) 0 (canon (cutAt t c .rest))
-  left-holds gives =
-      keeps-holds (record { good = good-second (cutAt-good (k .good) c h); bytes = gives (canon t) (keeps-holds k) ∙ ap (λ (x : Cut). hold (canon (x .rest))) (cutIn-cutAt t c is-cut) })
+  left-holds : (left : Record) → ((u : Tree) → Holds (tree .node) 0 u → left .node ≡ hold (canon (cutIn u c .rest))) → Holds (left .node) 0 (canon (cutAt t c .rest))
+  left-holds left gives =
+      keeps-holds {tree = left} (record { good = good-second (cutAt-good (k .good) c h); bytes = gives (canon t) (keeps-holds k) ∙ ap (λ (x : Cut). hold (canon (x .rest))) (cutIn-cutAt t c is-cut) })
 
   pruned-holds : Holds (tree .node) (c + 1) (canon (cutAt t c .pruned))
   unfolding has-cut
@@ -75,14 +69,14 @@ module _ {tree : Record} {c at len : ℕ} (f : ForestFits tree c at len) where
   cut-of-tree = has-cut (f .keeps) (f .is-cut)
 
   -- room for each component; `left` is what `remainder` returns
-  module _ {left : Record} (gives : (u : Tree) → Holds (tree .node) 0 u → left .node ≡ hold (canon (cutIn u c .rest))) where
+  module _ (left : Record) (gives : (u : Tree) → Holds (tree .node) 0 u → left .node ≡ hold (canon (cutIn u c .rest))) where
     pub room-left : Room (λ t. at + length (write t) + 1) (left .node) 0 len
-    room-left = record { tree = canon (k .rest); holds = left-holds (f .keeps) (f .is-cut) gives; room = omega (arith, f .room, length-forest k) }
+    room-left = record { tree = canon (k .rest); holds = left-holds (f .keeps) (f .is-cut) left gives; room = omega (arith, f .room, length-forest k) }
 
     pub room-pruned : {out o₁ : List ℕ} {r : ℕ} → length out ≡ len → ((t : Tree) → Holds (left .node) 0 t → Wrote (write t ++ (32 ∷ [])) out o₁ at r)
         → Room (λ t. r + length (write t) + 1) (tree .node) (c + 1) (length o₁)
     room-pruned same wrote =
-        let w = wrote (canon (k .rest)) (left-holds (f .keeps) (f .is-cut) gives) in
+        let w = wrote (canon (k .rest)) (left-holds (f .keeps) (f .is-cut) left gives) in
         record {
           tree = canon (k .pruned);
           holds = pruned-holds (f .keeps) (f .is-cut);
@@ -96,4 +90,4 @@ module _ {tree : Record} {c at len : ℕ} (f : ForestFits tree c at len) where
     wrote-parts p q t l =
         let same : leaves (canon t) ≡ leaves (canon (f .topology)) = ap leaves (unique (keeps-holds l) (keeps-holds (f .keeps))) in
         let h : c < 2 * leaves t - 2 = omega (arith, f .is-cut, leaves-canon t, leaves-canon (f .topology)) in
-        wrote-forest (cutAt t c) (p (canon (cutAt t c .rest)) (left-holds l h gives)) (q (canon (cutAt t c .pruned)) (pruned-holds l h))
+        wrote-forest (cutAt t c) (p (canon (cutAt t c .rest)) (left-holds l h left gives)) (q (canon (cutAt t c .pruned)) (pruned-holds l h))

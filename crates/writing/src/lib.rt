@@ -2,14 +2,18 @@
 ghost use mathlib.Core.List.{[], _∷_, _++_};
 ghost use Prim.Native.Nat.{_+_, _≤_};
 ghost use lib.ListN.{length};
-ghost use Rattle.meaning.specs.Tree.{Tree as Topology, digits, write, form};
+ghost use Rattle.meaning.specs.Tree.{Tree as Topology, digits, write, canon};
+ghost use Rattle.meaning.specs.Kind.{Kinded};
+ghost use Rattle.meaning.specs.Unrooted.{bare, writeU};
+ghost use Rattle.meaning.specs.EitherKind.{writeAs, formAs};
 ghost use Rattle.meaning.specs.Move.{cutAt, forest};
 ghost use Rattle.meaning.specs.Sheet.{twoFields, firstLine, treeLine, pairLine, refusalLine};
 ghost use Rattle.meaning.specs.IslandSheet.{islandLine};
 ghost use Rattle.lent.specs.Runs.{Wrote};
 ghost use Rattle.held.specs.Held.{Holds, Room};
-ghost use Rattle.held.specs.Kept.{Keeps, KeptRoom};
+ghost use Rattle.held.specs.Kept.{Keeps, KeepsKind, KeptKindRoom};
 ghost use Rattle.writing.specs.Writing.{ForestFits};
+use held::Kind;
 use held::Tree;
 
 // Writes n in decimal into `out` from `at` on. The digits before the last are those of n / 10.
@@ -55,13 +59,73 @@ fn write_part(out: &mut [u8], at: usize, n: &[u8], k: usize, end: u8) -> usize
     behind + 1
 }
 
-// Writes the canonical text. A tree is in canonical order, so it is written as it is held.
-pub fn write_form(out: &mut [u8], at: usize, tree: Tree) -> usize
-    requires { ⌜ KeptRoom (λ t. at + length (form t)) tree (length (now out)) ⌝ }
-    ensures { λ r. ⌜ ((t : Topology) → Keeps tree t → Wrote (form t) (now (out .entry)) (now (out .exit)) at r) ⌝ }
+// Writes the whole text, with nothing behind it.
+fn write_text(out: &mut [u8], at: usize, text: &[u8]) -> usize
+    requires { ⌜ at + length (now text) ≤ length (now out) ⌝ }
+    ensures { λ r. ⌜ Wrote (now (text .entry)) (now (out .entry)) (now (out .exit)) at r ⌝ }
+{
+    lent::copy(out, at, text, 0, text.len())
+}
+
+// Writes the subtree at k as it is held, without brackets around it.
+fn write_bare(out: &mut [u8], at: usize, n: &[u8], k: usize) -> usize
+    requires { ⌜ Room (λ t. at + length (bare t)) (now n) k (length (now out)) ⌝ }
+    ensures { λ r. ⌜ ((t : Topology) → Holds (now (n .entry)) k t → Wrote (bare t) (now (out .entry)) (now (out .exit)) at r) ⌝ }
+{
+    if n[k] <= Tree::FORK {
+        return write_node(out, at, n, k);
+    }
+    let first = k + 1;
+    let second = first + held::width(n, first);
+    let next = write_part(out, at, n, first, b',');
+    write_node(out, next, n, second)
+}
+
+// Writes the unrooted tree for which the held tree stands. A fork at its second child is the top, so its own brackets are
+// left out and those of the root stand around all three.
+fn write_unrooted(out: &mut [u8], at: usize, n: &[u8]) -> usize
+    requires { ⌜ Room (λ t. at + length (writeU t)) (now n) 0 (length (now out)) ⌝ }
+    ensures { λ r. ⌜ ((t : Topology) → Holds (now (n .entry)) 0 t → Wrote (writeU t) (now (out .entry)) (now (out .exit)) at r) ⌝ }
+{
+    if n[0] <= Tree::FORK {
+        return write_node(out, at, n, 0);
+    }
+    out[at] = b'(';
+    let second = 1 + held::width(n, 1);
+    let next = write_part(out, at + 1, n, 1, b',');
+    let close = write_bare(out, next, n, second);
+    out[close] = b')';
+    close + 1
+}
+
+// Writes the tree as it is held, an unrooted one behind its mark, with no semicolon.
+fn write_tree(out: &mut [u8], at: usize, tree: Tree) -> usize
+    requires { ⌜ KeptKindRoom (λ x. at + length (writeAs (x .kind) (canon (x .tree)))) tree (length (now out)) ⌝ }
+    ensures { λ r. ⌜
+        ((x : Kinded) → KeepsKind tree x
+        → Wrote (writeAs (x .kind) (canon (x .tree))) (now (out .entry)) (now (out .exit)) at r) ⌝ }
 {
     let n = tree.node;
-    write_part(out, at, &n, 0, b';')
+    let kind = tree.kind;
+    match kind {
+        Kind::Rooted => write_node(out, at, &n, 0),
+        Kind::Unrooted => {
+            let top = write_text(out, at, b"[&U]");
+            write_unrooted(out, top, &n)
+        }
+    }
+}
+
+// Writes the canonical text. A tree is in canonical order, so it is written as it is held.
+pub fn write_form(out: &mut [u8], at: usize, tree: Tree) -> usize
+    requires { ⌜ KeptKindRoom (λ x. at + length (formAs (x .kind) (x .tree))) tree (length (now out)) ⌝ }
+    ensures { λ r. ⌜
+        ((x : Kinded) → KeepsKind tree x
+        → Wrote (formAs (x .kind) (x .tree)) (now (out .entry)) (now (out .exit)) at r) ⌝ }
+{
+    let end = write_tree(out, at, tree);
+    out[end] = b';';
+    end + 1
 }
 
 // Writes the forest text of cut c. What is left is put in canonical order anew; what was pruned is in it already, as each
@@ -75,14 +139,6 @@ pub fn write_forest(out: &mut [u8], at: usize, tree: Tree, c: usize) -> usize
     let pruned = c + 1;
     let next = write_part(out, at, &left, 0, b' ');
     write_part(out, next, &n, pruned, b';')
-}
-
-// Writes the whole text, with nothing behind it.
-fn write_text(out: &mut [u8], at: usize, text: &[u8]) -> usize
-    requires { ⌜ at + length (now text) ≤ length (now out) ⌝ }
-    ensures { λ r. ⌜ Wrote (now (text .entry)) (now (out .entry)) (now (out .exit)) at r ⌝ }
-{
-    lent::copy(out, at, text, 0, text.len())
 }
 
 // Writes a text and the number n behind it.
@@ -145,8 +201,11 @@ pub fn write_tree_line(
     unlinked: usize,
     tree: Tree,
 ) -> usize
-    requires { ⌜ KeptRoom (λ t. at + length (treeLine position neighbours unlinked t)) tree (length (now out)) ⌝ }
-    ensures { λ r. ⌜ ((t : Topology) → Keeps tree t → Wrote (treeLine position neighbours unlinked t) (now (out .entry)) (now (out .exit)) at r) ⌝ }
+    requires { ⌜
+        KeptKindRoom (λ x. at + length (treeLine (x .kind) position neighbours unlinked (x .tree))) tree (length (now out)) ⌝ }
+    ensures { λ r. ⌜
+        ((x : Kinded) → KeepsKind tree x
+        → Wrote (treeLine (x .kind) position neighbours unlinked (x .tree)) (now (out .entry)) (now (out .exit)) at r) ⌝ }
 {
     let linked = write_field(out, at, b"tree ", position);
     let apart = write_field(out, linked, b" neighbours ", neighbours);

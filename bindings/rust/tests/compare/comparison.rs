@@ -145,14 +145,14 @@ impl LentSupport {
 /// The comparisons of a test, and how many calls were accepted (at 0) and refused with each number.
 pub struct Comparison {
     pub random: Random,
-    answers: [usize; 10],
+    answers: [usize; 11],
 }
 
 impl Comparison {
     pub fn new(seed: u64) -> Comparison {
         Comparison {
             random: Random::new(seed),
-            answers: [0; 10],
+            answers: [0; 11],
         }
     }
 
@@ -166,7 +166,7 @@ impl Comparison {
     /// Ends a test: it met each of these refusals so many times or more; 0 stands for accepted.
     pub fn met(&self, test: &str, least: &[(usize, usize)]) {
         let (accepted, refused) = (self.answers[0], &self.answers[1..]);
-        println!("{test}: {accepted} accepted, refused 1 to 9: {refused:?}");
+        println!("{test}: {accepted} accepted, refused 1 to 10: {refused:?}");
         for &(number, times) in least {
             let met = self.answers[number];
             assert!(met >= times, "{number} was met {met} times only");

@@ -37,6 +37,14 @@ impl Random {
     }
 }
 
+/// Whether a tree has a root.
+#[derive(Clone, Copy, Debug, PartialEq, Eq)]
+pub enum Kind {
+    Rooted,
+    Unrooted,
+}
+
+/// A tree; an unrooted one has its root on any edge.
 #[derive(Clone)]
 pub enum Tree {
     Leaf(u8),
@@ -135,6 +143,30 @@ impl Tree {
         rest.grafted(at, gone)
     }
 
+    /// The tree after a random move of its kind.
+    pub fn moved_as(self, kind: Kind, random: &mut Random) -> Tree {
+        match kind {
+            Kind::Rooted => self.moved(random),
+            // On either side of an edge may be the root, so either may be the one that is moved.
+            Kind::Unrooted => self.turned(random).moved(random),
+        }
+    }
+
+    /// The same unrooted tree with its root on another edge, some steps away.
+    fn turned(self, random: &mut Random) -> Tree {
+        let (child, aside) = match self {
+            Fork(one, other) if random.percent(50) => (*one, *other),
+            Fork(one, other) => (*other, *one),
+            leaf => return leaf,
+        };
+        match child {
+            Fork(one, other) if random.percent(80) => {
+                fork(*one, fork(*other, aside)).turned(random)
+            }
+            child => fork(child, aside),
+        }
+    }
+
     /// The tree with a random node regrafted above its aunt. Where the way down ends at a leaf, the tree as it is.
     fn interchanged(self, random: &mut Random) -> Tree {
         let (parent, aunt) = match self {
@@ -157,33 +189,71 @@ impl Tree {
         out
     }
 
+    /// A text of the tree of this kind, in the same way. An unrooted tree has its mark and its top at any node, and a
+    /// rooted one has its mark at times.
+    pub fn text_as(&self, kind: Kind, random: &mut Random, blanks: usize) -> Vec<u8> {
+        let mut out = Vec::new();
+        if kind == Kind::Unrooted {
+            token(random, blanks, b"[&U]", &mut out);
+            self.clone()
+                .turned(random)
+                .write_top(random, blanks, &mut out);
+        } else {
+            if random.percent(20) {
+                token(random, blanks, b"[&R]", &mut out);
+            }
+            self.write(random, blanks, &mut out);
+        }
+        token(random, blanks, b";", &mut out);
+        out
+    }
+
     fn write(&self, random: &mut Random, blanks: usize, out: &mut Vec<u8>) {
         match self {
             Leaf(label) => token(random, blanks, label.to_string().as_bytes(), out),
-            Fork(one, other) => {
-                let (one, other) = if random.percent(50) {
-                    (one, other)
-                } else {
-                    (other, one)
-                };
-                token(random, blanks, b"(", out);
-                one.write(random, blanks, out);
-                token(random, blanks, b",", out);
-                other.write(random, blanks, out);
-                token(random, blanks, b")", out);
-            }
+            Fork(one, other) => write_fork(&mut [one, other], random, blanks, out),
+        }
+    }
+
+    /// Writes an unrooted tree: of the two nodes at the root's edge, one is the top.
+    fn write_top(&self, random: &mut Random, blanks: usize, out: &mut Vec<u8>) {
+        let (one, other) = match self {
+            Fork(one, other) if random.percent(50) => (one, other),
+            Fork(one, other) => (other, one),
+            Leaf(_) => return self.write(random, blanks, out),
+        };
+        match (&**one, &**other) {
+            (Fork(a, b), c) | (c, Fork(a, b)) => write_fork(&mut [a, b, c], random, blanks, out),
+            (a, b) => write_fork(&mut [a, b], random, blanks, out),
         }
     }
 }
 
-/// So many trees with these labels: chains of moves, each from another tree and of up to `longest` trees, mixed.
-pub fn chains(random: &mut Random, labels: &[u8], trees: usize, longest: usize) -> Vec<Tree> {
+/// Writes these children in any order, in brackets.
+fn write_fork(children: &mut [&Tree], random: &mut Random, blanks: usize, out: &mut Vec<u8>) {
+    random.shuffle(children);
+    for (i, child) in children.iter().enumerate() {
+        token(random, blanks, if i == 0 { b"(" } else { b"," }, out);
+        child.write(random, blanks, out);
+    }
+    token(random, blanks, b")", out);
+}
+
+/// So many trees of this kind with these labels: chains of moves, each from another tree and of up to `longest` trees,
+/// mixed.
+pub fn chains(
+    random: &mut Random,
+    kind: Kind,
+    labels: &[u8],
+    trees: usize,
+    longest: usize,
+) -> Vec<Tree> {
     let mut made = Vec::new();
     while made.len() < trees {
         let mut tree = Tree::random(random, labels);
         for _ in 0..1 + random.below(longest) {
             made.push(tree.clone());
-            tree = tree.moved(random);
+            tree = tree.moved_as(kind, random);
         }
     }
     made.truncate(trees);
@@ -212,7 +282,12 @@ fn token(random: &mut Random, blanks: usize, token: &[u8], out: &mut Vec<u8>) {
 }
 
 /// Bytes that texts are made of, and a few that they are not.
-const BYTES: &[u8] = b"(((),,,);;;  \t\r\n00123456789x[-\0\x0b\xff";
+const BYTES: &[u8] = b"(((),,,);;;  \t\r\n00123456789x[&UR]-\0\x0b\xff";
+
+/// Marks, and what is not quite one.
+const MARKS: [&[u8]; 8] = [
+    b"[&U]", b"[&R]", b"[&u]", b"[&", b"[", b"[ &U]", b"&U]", b"[&U",
+];
 
 /// Digits that are labels, or not quite.
 const LABELS: [&[u8]; 12] = [
@@ -236,7 +311,7 @@ pub fn damage(random: &mut Random, text: &mut Vec<u8>) {
         let at = random.below(text.len() + 1);
         let byte = random.pick(BYTES);
         let rest = text.len() - at;
-        match random.below(8) {
+        match random.below(9) {
             0 => text.truncate(at),
             1 => text.insert(at, byte),
             2 if rest > 0 => text[at] = byte,
@@ -246,6 +321,10 @@ pub fn damage(random: &mut Random, text: &mut Vec<u8>) {
                 let part = text[at..at + random.below(rest.min(12) + 1)].to_vec();
                 let to = random.below(text.len() + 1);
                 text.splice(to..to, part);
+            }
+            6 => {
+                let to = random.pick(&[0, at]);
+                text.splice(to..to, random.pick(&MARKS).iter().copied());
             }
             // A label, if one begins here or behind.
             _ => {

@@ -4,7 +4,7 @@ mod comparison;
 mod generator;
 
 use comparison::Comparison;
-use generator::{chains, damage, labels, most_clades, Random, Tree};
+use generator::{chains, damage, labels, most_clades, Kind, Random, Tree};
 use norbelath::{Graph, Islands, Support, MAX_TEXT, MAX_TREES, SUPPORT_CLADES};
 
 /// Every text of up to so many of these bytes.
@@ -72,6 +72,31 @@ fn every_short_table() {
     compare.met("every short table", &least);
 }
 
+/// Marks, whole and broken, and what may stand in the top of an unrooted tree.
+#[test]
+fn every_short_mark_and_top() {
+    let mut compare = Comparison::new(16);
+    let marks = every_text(b"[&UR]1;", 5);
+    let tops = every_text(b"(),;23", 5);
+    let tops = tops.iter().map(|text| [b"[&U](1,", &text[..]].concat());
+    for text in marks.into_iter().chain(tops) {
+        compare.form(&text);
+        compare.cut(&text, 0);
+        compare.pair(&text, b"[&U](1,2);");
+        compare.pair(b"[&U]1;", &text);
+        compare.table(&text);
+    }
+    let least = [
+        (0, 20),
+        (1, 100_000),
+        (2, 2_000),
+        (3, 400),
+        (5, 10),
+        (10, 100),
+    ];
+    compare.met("every short mark and top", &least);
+}
+
 #[test]
 fn every_cut_of_random_trees() {
     let mut compare = Comparison::new(3);
@@ -118,6 +143,43 @@ fn pairs_of_trees() {
     }
     compare.met("pairs of trees", &[(0, 8_000), (5, 1_000)]);
     assert!(yes >= 2_000 && no >= 2_000, "{yes} yes and {no} no only");
+}
+
+/// The same for unrooted trees; at times one of the two is rooted.
+#[test]
+fn pairs_of_unrooted_trees() {
+    let mut compare = Comparison::new(17);
+    let (mut yes, mut no) = (0, 0);
+    for turn in 0..8_000 {
+        let leaves = 1 + compare.random.below([64, 8][turn % 2]);
+        let set = labels(&mut compare.random, leaves);
+        let tree = Tree::random(&mut compare.random, &set);
+        let mut other = tree.clone();
+        if turn % 9 == 0 {
+            let set = labels(&mut compare.random, leaves);
+            other = Tree::random(&mut compare.random, &set);
+        }
+        for _ in 0..compare.random.pick(&[0, 1, 1, 2, 3, 20]) {
+            other = other.moved_as(Kind::Unrooted, &mut compare.random);
+        }
+        let mut kinds = [Kind::Unrooted; 2];
+        if turn % 8 == 0 {
+            kinds[compare.random.below(2)] = Kind::Rooted;
+        }
+        let text = tree.text_as(kinds[0], &mut compare.random, 5);
+        let other = other.text_as(kinds[1], &mut compare.random, 5);
+        compare.form(&text);
+        match compare.pair(&text, &other) {
+            Some(true) => yes += 1,
+            Some(false) => no += 1,
+            None => {}
+        }
+    }
+    compare.met(
+        "pairs of unrooted trees",
+        &[(0, 12_000), (5, 200), (10, 900)],
+    );
+    assert!(yes >= 1_500 && no >= 1_500, "{yes} yes and {no} no only");
 }
 
 #[test]
@@ -185,6 +247,50 @@ fn tables_of_trees() {
     compare.met("tables of trees", &least);
 }
 
+/// The same for unrooted trees; in some tables, a few of them are rooted.
+#[test]
+fn tables_of_unrooted_trees() {
+    let mut compare = Comparison::new(18);
+    for turn in 0..2_000 {
+        let trees = match turn % 20 {
+            0 => MAX_TREES,
+            1 => MAX_TREES + 1,
+            _ => compare.random.below(24),
+        };
+        let leaves = 1 + compare.random.below([7, 7, 7, 20][turn % 4]);
+        let set = labels(&mut compare.random, leaves);
+        let mut tree = Tree::random(&mut compare.random, &set);
+        let mut text = Vec::new();
+        for _ in 0..trees {
+            let kind = match turn % 3 == 0 && compare.random.percent(10) {
+                true => Kind::Rooted,
+                false => Kind::Unrooted,
+            };
+            text.extend(tree.text_as(kind, &mut compare.random, 2));
+            for _ in 0..compare.random.pick(&[0, 1, 1, 2, 5]) {
+                tree = tree.moved_as(Kind::Unrooted, &mut compare.random);
+            }
+        }
+        if turn % 3 == 2 {
+            damage(&mut compare.random, &mut text);
+        }
+        compare.table(&text);
+        compare.graphs(&text);
+        compare.support(&text);
+        compare.sheet(&text);
+    }
+    let least = [
+        (0, 6_000),
+        (1, 1_000),
+        (2, 500),
+        (3, 50),
+        (5, 50),
+        (6, 100),
+        (10, 3_000),
+    ];
+    compare.met("tables of unrooted trees", &least);
+}
+
 /// The first positions of all topologies, in order.
 fn first_positions(firsts: &[u16]) -> Vec<u16> {
     let own = (0..).zip(firsts).filter(|&(i, &first)| i == first);
@@ -223,15 +329,16 @@ fn islands_of_trees() {
         let set = labels(&mut compare.random, leaves);
         let longest = compare.random.pick(&[2, 4, 8, 20]);
         let mut text = Vec::new();
-        for tree in chains(&mut compare.random, &set, trees, longest) {
-            text.extend(tree.text(&mut compare.random, 2));
+        let kind = [Kind::Rooted, Kind::Rooted, Kind::Unrooted][turn % 3];
+        for tree in chains(&mut compare.random, kind, &set, trees, longest) {
+            text.extend(tree.text_as(kind, &mut compare.random, 2));
         }
         let answer = compare.islands(&text).expect("a table of trees");
         several += usize::from(groups(&answer) > 1);
         chained += joined_by_chains(&answer);
         compare.support(&text);
     }
-    compare.met("islands of trees", &[(0, 2_000)]);
+    compare.met("islands of trees", &[(0, 1_600), (10, 300)]);
     println!("{several} tables of several islands, {chained} trees joined by chains");
     assert!(several >= 500 && chained >= 5_000);
 }
@@ -277,11 +384,12 @@ fn copies_of_trees() {
         let set = labels(&mut compare.random, leaves);
         let made = compare.random.pick(&[2, 4, 8, 16]);
         let longest = compare.random.pick(&[1, 3, 8]);
-        let few = chains(&mut compare.random, &set, made, longest);
+        let kind = [Kind::Rooted, Kind::Rooted, Kind::Unrooted][turn % 3];
+        let few = chains(&mut compare.random, kind, &set, made, longest);
         let mut text = Vec::new();
         for _ in 0..trees {
             let tree = &few[compare.random.below(few.len())];
-            text.extend(tree.text(&mut compare.random, 2));
+            text.extend(tree.text_as(kind, &mut compare.random, 2));
         }
         let (merged, apart) = compare
             .merged_and_kept_apart(&text)
@@ -291,7 +399,7 @@ fn copies_of_trees() {
         compare.support(&text);
         copied.note(&merged, &apart, &islands);
     }
-    compare.met("copies of trees", &[(0, 6_000)]);
+    compare.met("copies of trees", &[(0, 5_000), (10, 600)]);
     println!("{copied:?}");
     assert!(copied.tables >= 400 && copied.third >= 10_000);
     assert!(copied.alone >= 5_000 && copied.joined >= 3_000);
@@ -401,19 +509,17 @@ fn sheets() {
 
 /// Full tables of the largest trees, each one move from the one before; in one of them, eight trees again and again.
 /// Then a byte behind them.
-#[test]
-fn full_tables() {
-    let mut compare = Comparison::new(7);
+fn full_tables_of(kind: Kind, compare: &mut Comparison) {
     let labels: Vec<u8> = (1..=64).collect();
     for made in [MAX_TREES, 8] {
         let mut trees = vec![Tree::random(&mut compare.random, &labels)];
         while trees.len() < made {
             let last = trees[trees.len() - 1].clone();
-            trees.push(last.moved(&mut compare.random));
+            trees.push(last.moved_as(kind, &mut compare.random));
         }
         let mut text = Vec::new();
         for tree in trees.iter().cycle().take(MAX_TREES) {
-            text.extend(tree.text(&mut compare.random, 0));
+            text.extend(tree.text_as(kind, &mut compare.random, 0));
         }
         compare.table(&text);
         compare.graphs(&text);
@@ -423,7 +529,20 @@ fn full_tables() {
         compare.graphs(&text);
         compare.support(&text);
     }
+}
+
+#[test]
+fn full_tables() {
+    let mut compare = Comparison::new(7);
+    full_tables_of(Kind::Rooted, &mut compare);
     compare.met("full tables", &[(0, 14), (6, 14)]);
+}
+
+#[test]
+fn full_unrooted_tables() {
+    let mut compare = Comparison::new(19);
+    full_tables_of(Kind::Unrooted, &mut compare);
+    compare.met("full unrooted tables", &[(0, 10), (6, 10), (10, 8)]);
 }
 
 /// Text lengths around the limit. Too long goes before anything in the text, and too short a slice before that.

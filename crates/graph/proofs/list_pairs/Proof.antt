@@ -1,6 +1,8 @@
 -- `graph::list_pairs` meets its contract.
 -- Assumes nothing.
 use borrow.Author.Needs.{needs}
+use Rattle.lent.proofs.Tallies.{zeros-at}
+use Rattle.links.specs.Links.{linkBytes}
 use Rattle.graph.proofs.Turns.{graph-iff}
 use Rattle.graph.proofs.Firsts.{firsts-room}
 use Rattle.graph.proofs.list_pairs.Statement.{statement}
@@ -12,7 +14,7 @@ note-firsts-requires c κs = search needs
 link-positions-requires : tie.Need-link-positions-requires
 link-positions-requires c κs =
     let n = c .before .before .before .before in
-    firsts-room (n .before .before .before .before .before .pre) (n .note-firsts .ensures)
+    (firsts-room (n .before .before .before .before .before .pre) (n .note-firsts .ensures), zeros-at linkBytes)
 
 list-links-requires : tie.Need-list-links-requires
 list-links-requires c κs = search needs

@@ -20,11 +20,11 @@ enum-told-2 c = search needs
 
 link-firsts-requires-2 : tie.Need-link-firsts-requires-2
 link-firsts-requires-2 c κs =
-    let p = c .before .before .before .before .pre in
-    record { kept = p .kept; noted = p .noted; lent = p .lent; bytes = length-replicate {A = ℕ} linkBytes 0; empty = zeros-at linkBytes }
+    let p = c .before .before .before .before .pre .0 in
+    (record { kept = p .kept; noted = p .noted; lent = p .lent; bytes = length-replicate {A = ℕ} linkBytes 0 }, zeros-at linkBytes)
 
 copy-links-requires : tie.Need-copy-links-requires
-copy-links-requires c κs = copy-room (c .before .before .before .before .before .before .before .pre)
+copy-links-requires c κs = copy-room (c .before .before .before .before .before .before .before .pre .0)
 
 returns : tie.Need-returns
 returns c = merged-linked (c .before .before .before .before .before .args .by) (c .link-firsts .last .0) (c .before .before .enum-told .given .1) (c .link-firsts .ensures)
@@ -33,7 +33,7 @@ returns-2 : tie.Need-returns-2
 returns-2 c =
     let start = c .before .before .before .before .before .before .before .before in
     kept-linked (start .args .by) (start .args .firsts .now) (c .before .before .before .link-firsts2 .last .0) (c .copy-links .last .0)
-    (c .before .before .before .before .before .enum-told2 .given .1) (start .pre .noted) (c .before .before .before .link-firsts2 .ensures) (c .copy-links .ensures)
+    (c .before .before .before .before .before .enum-told2 .given .1) (start .pre .0 .noted) (c .before .before .before .link-firsts2 .ensures) (c .copy-links .ensures)
 
 pub link-positions-spec : {M : Type 1} → statement M
 link-positions-spec =

@@ -47,8 +47,8 @@ enum-known-step c = search needs
 enum-known-step-2 : tie.Need-enum-known-step-2
 enum-known-step-2 c = search needs
 
-list-pairs-requires : tie.Need-list-pairs-requires
-list-pairs-requires c κs =
+list-moves-requires : tie.Need-list-moves-requires
+list-moves-requires c κs =
     let d = c .before .before .before .before .before .before in
     graph-room (start d .args .s .now) (memory d) (given d) (c .before .before .before .before .step2 .given .1)
 
@@ -70,7 +70,7 @@ returns-2 : tie.Need-returns-2
 returns-2 c =
     let w = c .before .before .before .before .before .before in
     let d = w .before .before .before .before .before .before .before in
-    graph-listed (start d .args .s .now) (memory d) (given d) (w .before .before .before .before .before .step2 .given .1) (start d .args .copies) (w .list-pairs .ensures)
+    graph-listed (start d .args .s .now) (memory d) (given d) (w .before .before .before .before .before .step2 .given .1) (start d .args .copies) (w .list-moves .ensures)
 
 pub graph-call-choosing-spec : {M : Type 1} → statement M
 graph-call-choosing-spec =
@@ -82,7 +82,7 @@ graph-call-choosing-spec =
     read-lent-table-requires
     enum-known-step
     enum-known-step-2
-    list-pairs-requires
+    list-moves-requires
     returns
     same-length
     same-length-2

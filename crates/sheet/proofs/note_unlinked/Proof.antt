@@ -49,11 +49,11 @@ abbrev leftIn : tie.At-loop Inv-loop μ-loop → ℕ → ℕ
 leftIn c = left (start c .args .counts .now) (start c .args .table .len) (start c .args .firsts .now) (tallied c .tally .last .0)
 
 -- a turn's position is one of the trees', of which there are at most 160
-inside : (c : tie.In-loop Inv-loop μ-loop) → c .before .loop .i < length (start (c .before) .pre .trees)
-inside c = omega (arith, c .loop-test .taken, start (c .before) .pre .listed .keeps .count)
+inside : (c : tie.In-loop Inv-loop μ-loop) → c .before .loop .i < length (start (c .before) .pre .trees .trees)
+inside c = omega (arith, c .loop-test .taken, start (c .before) .pre .listed .keeps .all .count)
 
 few : (c : tie.In-loop Inv-loop μ-loop) → c .before .loop .i < maxTrees
-few c = omega (arith, inside c, start (c .before) .pre .listed .keeps .few)
+few c = omega (arith, inside c, start (c .before) .pre .listed .keeps .all .few)
 
 few-firsts : (c : tie.In-loop Inv-loop μ-loop) → getD (start (c .before) .args .firsts .now) (c .before .loop .i) 0 < maxTrees
 few-firsts c =
@@ -62,7 +62,7 @@ few-firsts c =
 
 -- the unlinked number, the neighbours and the copies make n
 rest : (c : tie.In-loop Inv-loop μ-loop) → let p = start (c .before) .pre in let i = c .before .loop .i in
-    unlinked (p .trees) (p .linked) i + getD (start (c .before) .args .counts .now) i 0
+    unlinked (p .trees .trees) (p .linked) i + getD (start (c .before) .args .counts .now) i 0
     + getD (tallied (c .before) .tally .last .0) (getD (start (c .before) .args .firsts .now) i 0) 0 ≡ start (c .before) .args .table .len
 rest c =
     let p = start (c .before) .pre in
@@ -102,7 +102,7 @@ sub-unlinked-2 : tie.Need-sub-unlinked-2 Inv-loop μ-loop
 sub-unlinked-2 c = omega (arith, rest (c .before .before))
 
 cast-unlinked : tie.Need-cast-unlinked Inv-loop μ-loop
-cast-unlinked c = let k = start (c .before .before .before) .pre .listed .keeps in omega (arith, k .count, k .few)
+cast-unlinked c = let k = start (c .before .before .before) .pre .listed .keeps .all in omega (arith, k .count, k .few)
 
 mul-unlinked : tie.Need-mul-unlinked Inv-loop μ-loop
 mul-unlinked c = omega (arith, few (c .before .before))
@@ -125,8 +125,8 @@ same-length c = wrote-length (c .before .loop .inv .1)
 returns : tie.Need-returns Inv-loop μ-loop
 returns c ts ps L =
     let h = c .before in
-    let all : h .loop .i ≡ length ts = omega (arith, L .keeps .count, h .loop .inv .0, c .loop-test .left) in
-    let same = map-same (leftIn h) (unlinked ts ps) (length ts) (λ j l. omega (arith, rest-at L (tallied h .tally .ensures) j l)) in
+    let all : h .loop .i ≡ length (ts .trees) = omega (arith, L .keeps .all .count, h .loop .inv .0, c .loop-test .left) in
+    let same = map-same (leftIn h) (unlinked (ts .trees) ps) (length (ts .trees)) (λ j l. omega (arith, rest-at L (tallied h .tally .ensures) j l)) in
     rw (all, same) at (h .loop .inv .1)
 
 pub note-unlinked-spec : {M : Type 1} → statement M

@@ -24,7 +24,7 @@ slice-aggregate-note-unlinked c = search needs
 note-unlinked-requires : tie.Need-note-unlinked-requires Inv-loop μ-loop
 note-unlinked-requires c κs =
     let p = c .before .before .before .before .pre in
-    record { trees = p .trees; linked = p .linked; listed = p .listed; room = p .listed .keeps .few }
+    record { trees = p .trees; linked = p .linked; listed = p .listed; room = p .listed .keeps .all .few }
 
 loop-holds : tie.Need-loop-holds Inv-loop μ-loop
 loop-holds c = (omega arith, λ ts ps L. record { behind = omega arith; cells = refl })
@@ -37,11 +37,11 @@ abbrev start : tie.At-loop Inv-loop μ-loop → tie.Start Inv-loop μ-loop
 start c = noted c .before .before .before .before .before
 
 -- a turn's tree is one of at most 160
-inside : (c : tie.In-loop Inv-loop μ-loop) → c .before .loop .i < length (start (c .before) .pre .trees)
-inside c = omega (arith, c .loop-test .taken, start (c .before) .pre .listed .keeps .count)
+inside : (c : tie.In-loop Inv-loop μ-loop) → c .before .loop .i < length (start (c .before) .pre .trees .trees)
+inside c = omega (arith, c .loop-test .taken, start (c .before) .pre .listed .keeps .all .count)
 
 few : (c : tie.In-loop Inv-loop μ-loop) → c .before .loop .i < maxTrees
-few c = omega (arith, inside c, start (c .before) .pre .listed .keeps .few)
+few c = omega (arith, inside c, start (c .before) .pre .listed .keeps .all .few)
 
 mul-neighbours : tie.Need-mul-neighbours Inv-loop μ-loop
 mul-neighbours c = omega (arith, few c)

@@ -4,19 +4,24 @@ use mathlib.Core.List.{List}
 use Prim.Native.Nat.{ℕ, _-_}
 use native.Mathlib.Omega.{arith}
 use borrow.Author.Needs.{needs}
+use Rattle.meaning.specs.Kind.{asTrees, Takes}
+use Rattle.reading.specs.Whole.{takesOf}
 use Rattle.tables.proofs.Turns.{State, start, TreeIn, at-end, at-full, at-refused, tree-in, at-differs, at-more, falls}
 use Rattle.tables.proofs.read_table.Statement.{statement}
 use Rattle.tables.proofs.read_table.Tie as tie
 
 abbrev Inv-loop : tie.InvT-loop
-Inv-loop s table₀ at₀ table at = State s table at
+Inv-loop s takes table₀ at₀ table at = State (takesOf takes) s table at
 
 abbrev μ-loop : tie.MeasureT-loop
-μ-loop s table₀ at₀ table at = 160 - table .len
+μ-loop s takes table₀ at₀ table at = 160 - table .len
 
--- the text, and the head of the loop, from where a tree was read
+-- the text, which kinds are taken, and the head of the loop, from where a tree was read
 abbrev text : tie.At-loop Inv-loop μ-loop → List ℕ
 text c = c .before .before .before .before .args .s .now
+
+abbrev taken : tie.At-loop Inv-loop μ-loop → Takes
+taken c = takesOf (c .before .before .before .before .args .takes)
 
 abbrev head : tie.After-read-at Inv-loop μ-loop → tie.At-loop Inv-loop μ-loop
 head c = c .before .before .before .before
@@ -28,7 +33,7 @@ skip-blanks-requires : tie.Need-skip-blanks-requires Inv-loop μ-loop
 skip-blanks-requires c κs = search needs
 
 loop-holds : tie.Need-loop-holds Inv-loop μ-loop
-loop-holds c = start _ _ _ (c .before .empty .ensures) (c .skip-blanks .ensures)
+loop-holds c = start _ _ _ _ (c .before .empty .ensures) (c .skip-blanks .ensures)
 
 refuse-requires : tie.Need-refuse-requires Inv-loop μ-loop
 refuse-requires c κs = search needs
@@ -54,7 +59,8 @@ returns-2 c =
 
 -- what is known of a tree that was read
 tree-read : (c : tie.After-known-told Inv-loop μ-loop)
-    → TreeIn (text (head (c .before .before .before))) (head (c .before .before .before) .loop .table) (head (c .before .before .before) .loop .at) (c .before .before .before .read-at .result) (c .before .step .given .0 .0)
+    → let read = c .before .before .before in
+    TreeIn (taken (head read)) (text (head read)) (head read .loop .table) (head read .loop .at) (read .read-at .result) (c .before .step .given .0 .0)
 tree-read c =
     let read = c .before .before .before in
     tree-in (head read .loop .inv) (read .before .before .before .loop-test .taken) (read .before .if1 .left) (read .read-at .ensures) (c .before .step .given .1)
@@ -62,7 +68,7 @@ tree-read c =
 like-first-requires : tie.Need-like-first-requires Inv-loop μ-loop
 like-first-requires c κs =
     let t = tree-read c in
-    (record { trees = t .state .done; keeps = t .state .keeps }, record { topology = t .tree; keeps = t .keeps })
+    (record { trees = asTrees (t .state .done) .trees; keeps = t .state .keeps .all }, record { topology = t .tree .tree; keeps = t .keeps .keeps })
 
 sub-refuse : tie.Need-sub-refuse Inv-loop μ-loop
 sub-refuse c = omega (arith, tree-read (c .before .before) .place)
@@ -82,7 +88,9 @@ skip-blanks-requires-2 : tie.Need-skip-blanks-requires-2 Inv-loop μ-loop
 skip-blanks-requires-2 c κs = search needs
 
 loop-less : tie.Need-loop-less Inv-loop μ-loop
-loop-less c = falls (tree-read (c .before .before .before .before)) (c .before .push .ensures)
+loop-less c =
+    let compared = c .before .before .before in
+    falls (tree-read (compared .before)) (compared .like-first .ensures) (c .before .before .if2 .left) (c .before .push .ensures)
 
 loop-again : tie.Need-loop-again Inv-loop μ-loop
 loop-again c =

@@ -22,7 +22,7 @@ slice-aggregate-write-part c = search needs
 write-part-requires : tie.Need-write-part-requires
 write-part-requires c κs =
     let o = c .before .before .before in
-    room-left (o .before .before .before .pre) (o .remainder .ensures)
+    room-left (o .before .before .before .pre) (o .remainder .result) (o .remainder .ensures)
 
 slice-aggregate-write-part-2 : tie.Need-slice-aggregate-write-part-2
 slice-aggregate-write-part-2 c = search needs
@@ -31,7 +31,7 @@ write-part-requires-2 : tie.Need-write-part-requires-2
 write-part-requires-2 c κs =
     let w = c .before .before .before .before in
     let o = w .before .before .before .before in
-    room-pruned (o .before .before .before .pre) (o .remainder .ensures) refl (w .write-part .ensures)
+    room-pruned (o .before .before .before .pre) (o .remainder .result) (o .remainder .ensures) refl (w .write-part .ensures)
 
 same-length : tie.Need-same-length
 same-length c = search needs
@@ -41,7 +41,7 @@ returns c =
     let v = c .before .before in
     let w = v .before .before .before .before .before in
     let o = w .before .before .before .before in
-    wrote-parts (o .before .before .before .pre) (o .remainder .ensures) (w .write-part .ensures) (v .write-part2 .ensures)
+    wrote-parts (o .before .before .before .pre) (o .remainder .result) (o .remainder .ensures) (w .write-part .ensures) (v .write-part2 .ensures)
 
 pub write-forest-spec : {M : Type 1} → statement M
 write-forest-spec =

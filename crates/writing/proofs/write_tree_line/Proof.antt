@@ -4,7 +4,8 @@ use Prim.Native.Nat.{ℕ, _+_, _≤_}
 use native.Mathlib.Omega.{arith}
 use borrow.Author.Needs.{needs}
 use lib.ListN.{length}
-use Rattle.meaning.specs.Tree.{digits, form}
+use Rattle.meaning.specs.Tree.{digits}
+use Rattle.meaning.specs.EitherKind.{formAs}
 use Rattle.lent.proofs.Runs.{wrote-length}
 use Rattle.writing.proofs.Lines.{tree-length, tree-wrote}
 use Rattle.writing.proofs.write_tree_line.Statement.{statement}
@@ -31,7 +32,7 @@ text c = c .before .before .before .before .before
 
 -- how many bytes the text, the third number and the second take
 abbrev formed : tie.Start → ℕ
-formed s = length (form (s .pre .topology))
+formed s = let x = s .pre .kinded in length (formAs (x .kind) (x .tree))
 
 abbrev apart : tie.Start → ℕ
 apart s = length (digits (s .args .unlinked))
@@ -42,8 +43,8 @@ joined s = length (digits (s .args .neighbours))
 -- the room that is left at each place
 room-line : (s : tie.Start) → s .args .at + length (digits (s .args .position)) + joined s + apart s + formed s + 29 ≤ length (s .args .out .now)
 room-line s =
-    let p = s .pre in
-    omega (arith, p .room, tree-length (s .args .position) (s .args .neighbours) (s .args .unlinked) (p .topology))
+    let x = s .pre .kinded in
+    omega (arith, s .pre .room, tree-length (x .kind) (s .args .position) (s .args .neighbours) (s .args .unlinked) (x .tree))
 
 room-second : (c : tie.After-write-field) → c .write-field .result + joined (start c) + apart (start c) + formed (start c) + 24 ≤ length (c .write-field .last .0)
 room-second c = let w = c .write-field .ensures in omega (arith, room-line (start c), w .behind, wrote-length w)
@@ -60,7 +61,7 @@ room-text c = let w = c .write-text .ensures in omega (arith, room-space (third 
 room-end : (c : tie.After-write-form) → c .write-form .result + 1 ≤ length (c .write-form .last .0)
 room-end c =
     let p = start (first (second (third (space c)))) .pre in
-    let w = c .write-form .ensures (p .topology) (p .keeps) in
+    let w = c .write-form .ensures (p .kinded) (p .keeps) in
     omega (arith, room-text (space c), w .behind, wrote-length w)
 
 slice-aggregate-write-field : tie.Need-slice-aggregate-write-field
@@ -91,7 +92,7 @@ write-form-requires : tie.Need-write-form-requires
 write-form-requires c κs =
     let o = c .before .before .before in
     let p = start (first (second (third o))) .pre in
-    record { topology = p .topology; keeps = p .keeps; room = omega (arith, room-text o) }
+    record { kinded = p .kinded; keeps = p .keeps; room = omega (arith, room-text o) }
 
 slice-aggregate-write-text-2 : tie.Need-slice-aggregate-write-text-2
 slice-aggregate-write-text-2 c = search needs
@@ -111,8 +112,8 @@ returns c =
     let two = second three in
     let one = first two in
     let a = start one .args in
-    λ t k. tree-wrote (a .position) (a .neighbours) (a .unlinked) t (one .write-field .ensures) (two .write-field2 .ensures)
-    (three .write-field3 .ensures) (gap .write-text .ensures) (form .write-form .ensures t k) (end .write-text2 .ensures)
+    λ x k. tree-wrote (x .kind) (a .position) (a .neighbours) (a .unlinked) (x .tree) (one .write-field .ensures) (two .write-field2 .ensures)
+    (three .write-field3 .ensures) (gap .write-text .ensures) (form .write-form .ensures x k) (end .write-text2 .ensures)
 
 pub write-tree-line-spec : {M : Type 1} → statement M
 write-tree-line-spec =

@@ -5,13 +5,13 @@ use Rattle.graph.proofs.Unite.{islands-room, islands-written}
 use Rattle.graph.proofs.islands.list_islands.Statement.{statement}
 use Rattle.graph.proofs.islands.list_islands.Tie as tie
 
-list-pairs-requires : tie.Need-list-pairs-requires
-list-pairs-requires c κs = search needs
+list-moves-requires : tie.Need-list-moves-requires
+list-moves-requires c κs = search needs
 
 number-islands-requires : tie.Need-number-islands-requires
 number-islands-requires c κs =
     let o = c .before .before .before .before .before .before .before .before .before in
-    islands-room (o .before .before .before .before .before .before .before .before .pre) (o .list-pairs .ensures)
+    islands-room (o .before .before .before .before .before .before .before .before .pre) (o .list-moves .ensures)
 
 same-length : tie.Need-same-length
 same-length c = search needs
@@ -29,13 +29,13 @@ returns : tie.Need-returns
 returns c =
     let w = c .before .before in
     let o = w .before .before .before .before .before .before .before .before .before .before in
-    islands-written (o .before .before .before .before .before .before .before .before .pre) (o .list-pairs .ensures) (w .number-islands .ensures)
+    islands-written (o .before .before .before .before .before .before .before .before .pre) (o .list-moves .ensures) (w .number-islands .ensures)
 
 pub list-islands-spec : {M : Type 1} → statement M
 list-islands-spec =
     tie.close
     (tie.spec
-    list-pairs-requires
+    list-moves-requires
     number-islands-requires
     same-length
     same-length-2

@@ -2,7 +2,8 @@
 -- Assumes nothing.
 use borrow.Author.Needs.{needs}
 use Rattle.meaning.specs.Reading.{readTable}
-use Rattle.tables.proofs.Lent.{lent-withheld, lent-read}
+use Rattle.reading.specs.Whole.{takesOf}
+use Rattle.tables.proofs.Lent.{lent-withheld, lent-read, treesOf, table-answered}
 use Rattle.tables.proofs.limited.read_lent_table.Statement.{statement}
 use Rattle.tables.proofs.limited.read_lent_table.Tie as tie
 
@@ -20,7 +21,7 @@ returns c =
     let tested = c .before .before .before in
     let a = tested .before .before .args in
     let s = a .s .now in
-    lent-withheld s (readTable s) (tested .withheld .result) (a .fits) (tested .withheld .ensures) (c .before .before .if1 .taken) (c .before .refuse .ensures)
+    lent-withheld s (treesOf (readTable (takesOf (a .takes)) s)) (tested .withheld .result) (a .fits) (tested .withheld .ensures) (c .before .before .if1 .taken) (c .before .refuse .ensures)
 
 read-table-requires : tie.Need-read-table-requires
 read-table-requires c κs = search needs
@@ -30,7 +31,8 @@ returns-2 c =
     let tested = c .before .before in
     let a = tested .before .before .args in
     let s = a .s .now in
-    lent-read s (readTable s) (tested .withheld .result) (a .fits) (tested .withheld .ensures) (c .before .if1 .left) (c .read-table .ensures)
+    lent-read s (treesOf (readTable (takesOf (a .takes)) s)) (tested .withheld .result) (a .fits) (tested .withheld .ensures) (c .before .if1 .left)
+    (table-answered (c .read-table .result) (c .read-table .ensures))
 
 pub read-lent-table-spec : {M : Type 1} → statement M
 read-lent-table-spec = tie.close (tie.spec withheld-requires refuse-requires empty-requires returns read-table-requires returns-2)

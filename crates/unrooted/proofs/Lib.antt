@@ -1,0 +1,5 @@
+pub mod Apart
+pub mod Beside
+pub mod Path
+pub mod Round
+pub mod Walk
