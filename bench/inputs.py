@@ -1,5 +1,5 @@
 #!/usr/bin/env python3
-"""Benchmark inputs for the pair lister and the support call.
+"""Benchmark inputs for the pair lister, the support call and the row calls.
 
     inputs.py OUTDIR
 
@@ -32,6 +32,9 @@ For the support call some of the rooted ones, and one more of the same size:
     most_clades  no two trees share a clade but the whole label set, so that
                  there are as many clades as a table can have
 
+For the row calls the first 40 trees of some of the rooted ones: `unrelated_40x64`
+and so on.
+
 Without copies: `distinct_of_near_copies`, the first tree of each topology of
 `near_copies`.
 
@@ -52,6 +55,7 @@ TREES = 160
 LEAVES = 64
 FEWER_TREES = (20, 40, 80)
 FEWER_LEAVES = (8, 16, 32)
+ROW_TREES = 40
 
 NEAR_COPIES_BASES = 2
 NEAR_COPIES_NEIGHBOURS = 3
@@ -274,6 +278,7 @@ def most_clades(rng, leaves):
 FULL_TABLES = (unrelated, chain, near_copies, combs, copies, interchange_chain, mixed_chains, one_forest)
 UNROOTED_TABLES = (unrelated, chain, near_copies, combs, copies, one_forest)
 SUPPORT_TABLES = (most_clades, unrelated, near_copies, copies, combs, chain, one_forest)
+ROW_TABLES = (unrelated, chain, near_copies, combs, one_forest)
 
 
 # Texts
@@ -356,6 +361,12 @@ def support_inputs():
         yield make.__name__, text_of(table_of(make, LEAVES))
 
 
+def row_inputs():
+    """Yield (name, text) for each input of the row calls."""
+    for make in ROW_TABLES:
+        yield sized(make, ROW_TREES, LEAVES), text_of(table_of(make, LEAVES)[:ROW_TREES])
+
+
 def write_inputs(directory, named):
     """Write inputs.  Gives (name, path) for each, in order."""
     os.makedirs(directory, exist_ok=True)
@@ -377,6 +388,7 @@ def main(arguments):
         return 2
     write_inputs(arguments[0], inputs())
     write_inputs(arguments[0], support_inputs())
+    write_inputs(arguments[0], row_inputs())
     return 0
 
 

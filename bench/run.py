@@ -3,6 +3,7 @@
 
     run.py [OUR_PROGRAM] [--interchanges | --islands] [--repeat N] [--picture FILE]
     run.py [OUR_PROGRAM] --support [--repeat N]
+    run.py [OUR_PROGRAM] --rows [--repeat N]
 
 OUR_PROGRAM is the path of an executable that reads a table of trees from
 standard input and prints the sheet; if it is left out, the pair lister is built
@@ -31,6 +32,12 @@ are those of the whole process, start included; the time of the call alone, the
 best of many in one process, is what OUR_PROGRAM prints with --repeat.  Where
 there is a goal for the whole time it is shown; the exit status does not depend
 on it.
+
+With --rows OUR_PROGRAM is that of rows.c, built in the same way if it is left
+out.  It and the plain one try the pair test on every two rows of some tables of
+64 leaves, and their pairs must be the same.  Times are those of one call, without
+reading the file and printing: the mean over a table, the best of N rounds, which
+the programs print with --repeat.
 """
 
 import argparse
@@ -97,19 +104,29 @@ def build_pair_lister(directory):
     return program
 
 
-def build_support(directory):
-    """Build the library and the program of support.c over it, and give the
-    program's path."""
+def build_over_library(name, directory):
+    """Build the library and the program of a C file of this folder over it, and
+    give the program's path."""
     library = os.path.join(directory, "libnorbelath.a")
-    program = os.path.join(directory, "support")
+    program = os.path.join(directory, name)
     build_native("norbelath", "library", library)
     command = [os.environ.get("CC", "cc"), "-std=c11", "-O2", "-I", INCLUDE,
-               os.path.join(HERE, "support.c"), library, "-o", program]
+               os.path.join(HERE, name + ".c"), library, "-o", program]
     try:
         subprocess.run(command, check=True)
     except (OSError, subprocess.CalledProcessError) as error:
-        raise Failed("the program of support.c cannot be built: %s" % error) from error
+        raise Failed("the program of %s.c cannot be built: %s" % (name, error)) from error
     return program
+
+
+def build_support(directory):
+    """Build the program of support.c and give its path."""
+    return build_over_library("support", directory)
+
+
+def build_rows(directory):
+    """Build the program of rows.c and give its path."""
+    return build_over_library("rows", directory)
 
 
 def output_of(command, path):
@@ -184,6 +201,7 @@ PAIRS = Sheet(None, build_pair_lister, ("plain", "fast"), "pairs", trees_and_pai
 INTERCHANGES = Sheet("--interchanges", None, ("plain",), "pairs", trees_and_pairs, both_kinds=False)
 ISLANDS = Sheet("--islands", None, ("plain",), "islands", trees_and_islands)
 SUPPORT = Sheet("--support", build_support, ("plain",), "clades", trees_and_clades, both_kinds=False)
+ROWS = Sheet("--rows", build_rows, ("plain",), "pairs", trees_and_pairs, both_kinds=False)
 
 
 def size_of(path, sheet, output):
@@ -290,14 +308,13 @@ def print_ratios_of_kinds(sheet, times):
         print("%-23s" % name + "".join(COLUMN % ratio_text(*pair) for pair in pairs))
 
 
-def call_milliseconds(program, path, repeat):
-    """The best time of one support call, as the program of support.c prints
-    it."""
-    printed = output_of([program, "--repeat", str(repeat)], path)
+def call_microseconds(command, path, repeat):
+    """The best times of calls, as a program prints them."""
+    printed = output_of(command + ["--repeat", str(repeat)], path)
     try:
-        return float(printed) / 1e3
+        return [float(word) for word in printed.split()]
     except ValueError as error:
-        raise Failed("%s: no time of a call: %r" % (program, printed[:80])) from error
+        raise Failed("%s: no time of a call: %r" % (command[0], printed[:80])) from error
 
 
 def measure_support(commands, repeat, directory):
@@ -307,10 +324,23 @@ def measure_support(commands, repeat, directory):
     for name, path in inputs.write_inputs(os.path.join(directory, "inputs"), inputs.support_inputs()):
         size = size_of(path, SUPPORT, compared_output(commands, path))
         ours, plain = best_times(commands, path, repeat)
-        call = call_milliseconds(commands[0][0], path, repeat * CALL_REPEAT_FACTOR)
+        (call,) = call_microseconds(commands[0], path, repeat * CALL_REPEAT_FACTOR)
         goal = "< %d" % SUPPORT_GOALS_MS[name] if name in SUPPORT_GOALS_MS else "-"
-        columns = ("%.2f" % ours, "%.2f" % plain, ratio_text(ours, plain), "%.2f" % call, goal)
+        columns = ("%.2f" % ours, "%.2f" % plain, ratio_text(ours, plain), "%.2f" % (call / 1e3), goal)
         print(row((name,) + size, columns), flush=True)
+
+
+def measure_rows(commands, repeat, directory):
+    """Print the table of the row pair call and of reading a row, in
+    microseconds, with the pair call on texts behind them."""
+    columns = ("pair us", "plain us", "ratio", "read us", "plain us", "ratio", "texts us")
+    print(row(("input", "trees", "leaves", ROWS.counted), columns))
+    for name, path in inputs.write_inputs(os.path.join(directory, "inputs"), inputs.row_inputs()):
+        size = size_of(path, ROWS, compared_output(commands, path))
+        ours, plain = (call_microseconds(command, path, repeat) for command in commands)
+        columns = ["%.2f" % ours[0], "%.2f" % plain[0], "%.2f" % (ours[0] / plain[0])]
+        columns += ["%.2f" % ours[1], "%.2f" % plain[1], "%.2f" % (ours[1] / plain[1])]
+        print(row((name,) + size, columns + ["%.2f" % ours[2]]), flush=True)
 
 
 def run(ours, sheet, repeat, drawn, directory):
@@ -322,6 +352,10 @@ def run(ours, sheet, repeat, drawn, directory):
     print("CPU: %s, %d cores" % (cpu_model(), os.cpu_count() or 0))
     print(rustc_version())
 
+    if sheet is ROWS:
+        print("best of %d rounds\n" % repeat)
+        measure_rows(commands, repeat, directory)
+        return
     start = start_times(commands, repeat, directory)
     named = ", ".join("%s %.2f ms" % pair for pair in zip(programs, start))
     what = "included" if sheet is SUPPORT else "subtracted"
@@ -357,6 +391,8 @@ def main(arguments):
                         help="OUR_PROGRAM prints a line for each island")
     others.add_argument("--support", action="store_const", dest="sheet", const=SUPPORT,
                         help="OUR_PROGRAM is that of support.c; built for this machine if left out")
+    others.add_argument("--rows", action="store_const", dest="sheet", const=ROWS,
+                        help="OUR_PROGRAM is that of rows.c; built for this machine if left out")
     parser.set_defaults(sheet=PAIRS)
     parser.add_argument("--repeat", metavar="N", type=positive, default=DEFAULT_REPEAT)
     parser.add_argument("--picture", metavar="FILE", help="where to write the picture")
@@ -366,8 +402,8 @@ def main(arguments):
         parser.error("not an executable file: %s" % options.program)
     if not options.sheet.build and not program:
         parser.error("%s needs OUR_PROGRAM" % options.sheet.option)
-    if options.sheet is SUPPORT and options.picture:
-        parser.error("--support has no picture")
+    if options.sheet in (SUPPORT, ROWS) and options.picture:
+        parser.error("%s has no picture" % options.sheet.option)
     try:
         with tempfile.TemporaryDirectory() as directory:
             run(program, options.sheet, options.repeat, options.picture, directory)

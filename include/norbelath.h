@@ -1,10 +1,10 @@
 /*
  * Norbelath: binary trees, rooted or unrooted, as texts, and which of them are one prune and regraft apart.
  *
- * Ten calls over lent memory. They allocate nothing, keep nothing between calls and may be called from several
- * threads at once. On x86-64 the table call uses up to 120 KB of stack, the support call up to 300 KB, the graph,
- * interchange and islands calls up to 360 KB, and the sheet call up to 440 KB. Any bytes may be given as a text: what is
- * not as it should be is refused, with the reason and the place.
+ * Thirteen calls over lent memory. They allocate nothing, keep nothing between calls and may be called from several
+ * threads at once. On x86-64 the row calls use up to 20 KB of stack, the table call up to 120 KB, the support call up to
+ * 300 KB, the graph, interchange and islands calls up to 360 KB, and the sheet call up to 440 KB. Any bytes may be given
+ * as a text: what is not as it should be is refused, with the reason and the place.
  *
  * A text is a pointer and its length in bytes; it needs no byte 0 at its end. A lent slice is a pointer and its length in
  * elements. No pointer is NULL. The slices and numbers that a call may write overlap neither each other nor a text.
@@ -21,8 +21,11 @@
  *   interchanges,
  *   islands
  *   support         clades                       bytes written
- *   refused         which text: 0, or 1 for      the place: an offset in that text,
- *                   the pair call's other        its length where it ends too soon
+ *   row             numbers written              0
+ *   row text        bytes written                0
+ *   row pair        1 for yes, 0 for no          0
+ *   refused         which text or row: 0, or 1   the place: an offset in that text,
+ *                   for the other of a pair      its length where it ends too soon
  *
  * The support call has a third number, *third: the trees, and 0 where it is refused.
  *
@@ -39,7 +42,11 @@
  *
  * [&U] marks an unrooted tree; [&R], or no mark, a rooted one. Only the canonical text of an unrooted tree has the mark.
  * The trees of a call are of one kind and have the same labels. The form, pair, table, graph, graph choosing, islands and
- * sheet calls take trees of either kind; the cut, interchange and support calls take rooted trees only.
+ * sheet calls take trees of either kind; the cut, interchange, support and row calls take rooted trees only.
+ *
+ * A clade is the set of labels at and below a node, as a number with bit L - 1 set for each label L. The row of a rooted
+ * tree is its label set, then its clades of two or more labels in ascending order: as many numbers as the tree has leaves.
+ * A row that is lent to be read is the whole slice, so that its length is part of it.
  *
  * One move of a rooted tree takes the subtree at a node away and hangs it on an edge of the rest, or above its root. One
  * move of an unrooted tree cuts an edge and joins one side, by its cut end, to an edge of the other; either side may be
@@ -80,13 +87,18 @@ extern "C" {
 #define NORBELATH_SUPPORT_CLADES 9921
 #define NORBELATH_SUPPORT_TREES 9921
 #define NORBELATH_SUPPORT_OUT 309
+#define NORBELATH_ROW 64
+#define NORBELATH_ROW_TEXT_OUT 309
 #define NORBELATH_SHEET_OUT 221542
 
 /* The choices of the graph choosing call. Any number but 0 keeps copies apart. */
 #define NORBELATH_MERGE_COPIES 0
 #define NORBELATH_KEEP_COPIES 1
 
-/* Results. The place of a refusal is given behind each; 7, 8 and 9 have place 0. */
+/*
+ * Results. The place of a refusal is given behind each; 7, 8, 9 and 11 have place 0, and so has every refusal of the row
+ * text and row pair calls.
+ */
 #define NORBELATH_ACCEPTED 0
 #define NORBELATH_WRONG_BYTE 1     /* a byte that cannot stand there, or the text ends too soon: that byte, or the length */
 #define NORBELATH_BAD_LABEL 2      /* a label that is not 1 to 64: its first digit */
@@ -98,6 +110,7 @@ extern "C" {
 #define NORBELATH_LONG_TEXT 8      /* a text above 65,535 bytes */
 #define NORBELATH_NO_SUCH_CUT 9    /* a cut number that the tree does not have */
 #define NORBELATH_OTHER_KIND 10    /* not of the first tree's kind, or unrooted in a call for rooted trees only: its `;` */
+#define NORBELATH_NO_ROW 11        /* numbers that are the row of no tree */
 
 /* Form call: the canonical text of the one tree of a text, `;` included, and the mark of an unrooted tree. */
 uint8_t norbelath_form(const uint8_t *text, size_t text_len,
@@ -185,6 +198,24 @@ uint8_t norbelath_support(const uint8_t *text, size_t text_len,
                           uint16_t *trees, size_t trees_len,
                           uint8_t *out, size_t out_len,
                           uint64_t *first, uint64_t *second, uint64_t *third);
+
+/* Row call: the row of the one tree, a rooted one, of a text. */
+uint8_t norbelath_row(const uint8_t *text, size_t text_len,
+                      uint64_t *row, size_t row_len,
+                      uint64_t *first, uint64_t *second);
+
+/* Row text call: the canonical text of the tree that has this row, `;` included. */
+uint8_t norbelath_row_text(const uint64_t *row, size_t row_len,
+                           uint8_t *out, size_t out_len,
+                           uint64_t *first, uint64_t *second);
+
+/*
+ * Row pair call: whether one move makes the tree of `row` that of `other`, of the same labels and a different topology.
+ * A slice that is the row of no tree is refused first, `row` before `other`; then other labels are.
+ */
+uint8_t norbelath_row_pair(const uint64_t *row, size_t row_len,
+                           const uint64_t *other, size_t other_len,
+                           uint64_t *first, uint64_t *second);
 
 /*
  * Sheet call: what the pair lister prints for a text. A text that is refused has its sheet too, the line `refused N at P`:

@@ -361,6 +361,56 @@ static void supports(const char *text, size_t trees, const struct clade *expecte
     supports_in(support_more, text, trees, expected, number_of_clades, tree);
 }
 
+/* The slices of the row calls, with one element more than is asked for. */
+static uint64_t row_of[NORBELATH_ROW + 1];
+static uint8_t row_text_of[NORBELATH_ROW_TEXT_OUT + 1];
+
+static struct reply call_row(const char *text, size_t text_len, size_t row_len)
+{
+    struct reply r = {99, 99, 99};
+    memset(row_of, UNTOUCHED, sizeof row_of);
+    r.result = norbelath_row((const uint8_t *)text, text_len, row_of, row_len, &r.first, &r.second);
+    return r;
+}
+
+static void row_refused(const char *text, size_t text_len, size_t row_len, uint8_t number, uint64_t place)
+{
+    struct reply r = call_row(text, text_len, row_len);
+    check(same(r, number, 0, place), "row", text, "another refusal was expected");
+    check(untouched(row_of, 0, sizeof row_of), "row", text, "a refusal changed the slice");
+}
+
+/* Row text call: `expected` is the text, or NULL where a refusal is; `what` stands for the row in messages. */
+static void row_text(const char *what, const uint64_t *row, size_t row_len, size_t out_len, const char *expected,
+                     uint8_t number)
+{
+    struct reply r = {99, 99, 99};
+    memset(row_text_of, UNTOUCHED, sizeof row_text_of);
+    r.result = norbelath_row_text(row, row_len, row_text_of, out_len, &r.first, &r.second);
+    text_answer("row text", what, r, row_text_of, sizeof row_text_of, expected, number, 0);
+}
+
+static void row_pair(const char *what, const uint64_t *row, size_t row_len, const uint64_t *other, size_t other_len,
+                     uint8_t result, uint64_t first)
+{
+    struct reply r = {99, 99, 99};
+    r.result = norbelath_row_pair(row, row_len, other, other_len, &r.first, &r.second);
+    check(same(r, result, first, 0), "row pair", what, "another answer was expected");
+}
+
+/* A tree in canonical form and its row, in both directions, with just enough lent and with more. */
+static void rows(const char *text, const char *form, const uint64_t *expected, size_t numbers)
+{
+    for (size_t extra = 0; extra < 2; extra++) {
+        struct reply r = call_row(text, strlen(text), NORBELATH_ROW + extra);
+        check(same(r, NORBELATH_ACCEPTED, numbers, 0), "row", text, "another answer was expected");
+        check(memcmp(row_of, expected, numbers * sizeof expected[0]) == 0, "row", text, "another row was expected");
+        check(untouched(row_of, numbers * sizeof expected[0], sizeof row_of), "row", text,
+              "the slice was changed behind the row");
+        row_text(text, expected, numbers, NORBELATH_ROW_TEXT_OUT + extra, form, 0);
+    }
+}
+
 /* One byte more than the sheet call asks for. */
 static uint8_t printed[NORBELATH_SHEET_OUT + 1];
 
@@ -975,6 +1025,122 @@ static void refused_supports(void)
     short_supports("", 0);
 }
 
+/* The numbers of a list that stands where it is used, and how many they are. */
+#define LIST(...) (const uint64_t[]){__VA_ARGS__}, sizeof((const uint64_t[]){__VA_ARGS__}) / sizeof(uint64_t)
+
+/* One leaf is its label set alone, two leaves are the same number twice; clades ascend as numbers. */
+static void small_rows(void)
+{
+    rows("1;", "1;", LIST(BIT(1)));
+    rows(" 64 ;", "64;", LIST(BIT(64)));
+    rows("(2,1);", "(1,2);", LIST(3, 3));
+    rows("(64,1);", "(1,64);", LIST(BIT(1) | BIT(64), BIT(1) | BIT(64)));
+    rows("[&R](3,(2,1));", "((1,2),3);", LIST(7, 3, 7));
+    rows("((3,2),1);", "(1,(2,3));", LIST(7, 6, 7));
+    rows("((4,3),(2,1));", "((1,2),(3,4));", LIST(15, 3, 12, 15));
+    rows("((4,1),(3,2));", "((1,4),(2,3));", LIST(15, 6, 9, 15));
+    rows("(((10,2),64),9);", "(((2,10),64),9);",
+         LIST(BIT(2) | BIT(9) | BIT(10) | BIT(64), BIT(2) | BIT(10), BIT(2) | BIT(10) | BIT(64),
+              BIT(2) | BIT(9) | BIT(10) | BIT(64)));
+}
+
+/* The deepest tree: its row fills 64 numbers and its text 309 bytes. One element less is refused. */
+static void largest_rows(void)
+{
+    char deepest[LONGEST + 1];
+    uint64_t row[65] = {UINT64_MAX};
+    strcpy(write_comb(deepest, 1, 1, 64), ";");
+    for (unsigned leaves = 2; leaves <= 64; leaves++) {
+        row[leaves - 1] = UINT64_MAX >> (64 - leaves);
+    }
+    rows(deepest, deepest, row, 64);
+    row_refused(deepest, LONGEST, NORBELATH_ROW - 1, NORBELATH_SHORT_SLICE, 0);
+    row_text(deepest, row, 64, NORBELATH_ROW_TEXT_OUT - 1, NULL, NORBELATH_SHORT_SLICE);
+    row_pair("64 leaves twice", row, 64, row, 64, NORBELATH_ACCEPTED, 0);
+
+    row[64] = UINT64_MAX;
+    row_text("65 numbers", row, 65, NORBELATH_ROW_TEXT_OUT, NULL, NORBELATH_NO_ROW);
+    row_text("63 of 64 numbers", row, 63, NORBELATH_ROW_TEXT_OUT, NULL, NORBELATH_NO_ROW);
+    row_text("the clades alone", row + 1, 63, NORBELATH_ROW_TEXT_OUT, NULL, NORBELATH_NO_ROW);
+    row_text("a label less", row + 62, 2, NORBELATH_ROW_TEXT_OUT, NULL, NORBELATH_NO_ROW);
+}
+
+/* Too short a slice goes before the text and before the row; an unrooted tree is refused at its `;`. */
+static void refused_rows(void)
+{
+    const size_t enough = NORBELATH_ROW;
+    static char blanks[NORBELATH_MAX_TEXT + 1];
+    row_refused("(1,2);", 6, enough - 1, NORBELATH_SHORT_SLICE, 0);
+    row_refused("(1,2", 4, enough - 1, NORBELATH_SHORT_SLICE, 0);
+    row_refused("7;", 2, 0, NORBELATH_SHORT_SLICE, 0);
+    row_refused("", 0, enough, NORBELATH_WRONG_BYTE, 0);
+    row_refused("(1,2", 4, enough, NORBELATH_WRONG_BYTE, 4);
+    row_refused("(1,2);(1,2);", 12, enough, NORBELATH_WRONG_BYTE, 6);
+    row_refused("(1,65);", 7, enough, NORBELATH_BAD_LABEL, 3);
+    row_refused("(1,1);", 6, enough, NORBELATH_LABEL_AGAIN, 3);
+    row_refused("[&U](1,2,3);", 12, enough, NORBELATH_OTHER_KIND, 11);
+    row_refused("[&U]7;x", 7, enough, NORBELATH_OTHER_KIND, 5);
+    row_refused("[&U]7", 5, enough, NORBELATH_WRONG_BYTE, 5);
+    row_refused("[&U]((1,2),3);", 14, enough, NORBELATH_WRONG_BYTE, 12);
+    memset(blanks, ' ', sizeof blanks);
+    row_refused(blanks, NORBELATH_MAX_TEXT, enough, NORBELATH_WRONG_BYTE, NORBELATH_MAX_TEXT);
+    row_refused(blanks, sizeof blanks, enough, NORBELATH_LONG_TEXT, 0);
+    row_refused(blanks, sizeof blanks, enough - 1, NORBELATH_SHORT_SLICE, 0);
+}
+
+static void not_a_row(const char *what, const uint64_t *row, size_t row_len)
+{
+    row_text(what, row, row_len, NORBELATH_ROW_TEXT_OUT, NULL, NORBELATH_NO_ROW);
+    row_text(what, row, row_len, NORBELATH_ROW_TEXT_OUT - 1, NULL, NORBELATH_SHORT_SLICE);
+    row_pair(what, row, row_len, LIST(7, 3, 7), NORBELATH_NO_ROW, 0);
+    row_pair(what, LIST(7, 3, 7), row, row_len, NORBELATH_NO_ROW, 1);
+    row_pair(what, row, row_len, row, row_len, NORBELATH_NO_ROW, 0);
+}
+
+/* A slice holds one row and nothing more. What lies behind it is not part of it, though it may fit. */
+static void slices_that_are_no_rows(void)
+{
+    const uint64_t behind[] = {15, 3, 12, 15, 15};
+    not_a_row("nothing", behind, 0);
+    not_a_row("no labels", LIST(0));
+    not_a_row("no labels twice", LIST(0, 0));
+    not_a_row("one label twice", LIST(1, 1));
+    not_a_row("two labels once", LIST(3));
+    not_a_row("two labels three times", LIST(3, 3, 3));
+    not_a_row("a part of the row", behind, 3);
+    not_a_row("a number behind the row", behind, 5);
+    not_a_row("the whole left out", LIST(15, 3, 12));
+    not_a_row("one clade missing, another twice", LIST(15, 3, 3, 15));
+    not_a_row("clades out of order", LIST(15, 12, 3, 15));
+    not_a_row("the whole before its parts", LIST(7, 7, 3));
+    not_a_row("crossing clades", LIST(15, 3, 6, 15));
+    not_a_row("crossing clades, not side by side", LIST(15, 3, 12, 14));
+    not_a_row("a clade of one label", LIST(7, 1, 7));
+    not_a_row("a clade of none", LIST(7, 0, 7));
+    not_a_row("a label that is not in the label set", LIST(7, 3, 15));
+    not_a_row("another label set", LIST(11, 3, 7));
+    not_a_row("a larger label set", LIST(15, 3, 7));
+    not_a_row("a smaller label set", LIST(3, 3, 7));
+}
+
+/* The answers of the pair call; then which row is refused first, and other labels last. */
+static void row_pairs(void)
+{
+    row_pair("one move apart", LIST(15, 3, 7, 15), LIST(15, 3, 12, 15), NORBELATH_ACCEPTED, 1);
+    row_pair("not one move apart", LIST(15, 3, 7, 15), LIST(15, 12, 13, 15), NORBELATH_ACCEPTED, 0);
+    row_pair("what one keeps the other takes away", LIST(31, 24, 25, 27, 31), LIST(31, 3, 7, 15, 31),
+             NORBELATH_ACCEPTED, 0);
+    row_pair("equal", LIST(7, 3, 7), LIST(7, 3, 7), NORBELATH_ACCEPTED, 0);
+    row_pair("one leaf", LIST(64), LIST(64), NORBELATH_ACCEPTED, 0);
+    row_pair("two leaves", LIST(3, 3), LIST(3, 3), NORBELATH_ACCEPTED, 0);
+    row_pair("other labels", LIST(1), LIST(2), NORBELATH_LABELS_DIFFER, 1);
+    row_pair("a label more", LIST(3, 3), LIST(7, 3, 7), NORBELATH_LABELS_DIFFER, 1);
+    row_pair("another label", LIST(7, 3, 7), LIST(11, 3, 11), NORBELATH_LABELS_DIFFER, 1);
+    row_pair("both no rows", LIST(3), LIST(5), NORBELATH_NO_ROW, 0);
+    row_pair("row 1 is none, and has other labels", LIST(1), LIST(6), NORBELATH_NO_ROW, 1);
+    row_pair("row 0 is none, and has other labels", LIST(6), LIST(1), NORBELATH_NO_ROW, 0);
+}
+
 /* What the pair lister prints, of a table and of a text that is refused; line 7 is the only refusal. */
 static void sheets(void)
 {
@@ -1122,6 +1288,11 @@ int main(void)
     deepest_majority();
     most_clades();
     refused_supports();
+    small_rows();
+    largest_rows();
+    refused_rows();
+    slices_that_are_no_rows();
+    row_pairs();
     sheets();
     unrooted_sheets();
     limits();

@@ -1,42 +1,48 @@
 #!/usr/bin/env python3
 """Compare a pair lister with reference.py on generated cases.
 
-    compare.py PROGRAM [--interchanges | --graphs | --support | --islands] [--seed S] [--count N]
+    compare.py PROGRAM [--interchanges | --graphs | --support | --rows | --islands] [--seed S] [--count N]
 
 PROGRAM is the path of an executable that reads a table of trees from standard
 input and writes the sheet to standard output; with --interchanges it is the
 program of interchanges.c, and the sheet is that of the interchange call; with
 --graphs that of graphs.c, and the sheet is that of both graph calls; with
 --support that of supports.c, and the sheet is that of the support call; with
---islands it is the program of islands, and the sheet has a line for each.  It
-is run once for each case of generate.py, and its output must be the reference's
-sheet, byte for byte.  A program that is ended by a signal, or runs longer than
-the time limit for one case, counts as a mismatch.  Its exit status and standard
-error are shown with a mismatch but not judged, since document 01 says nothing
-about them.  Only where the sheet is empty, which that of islands is for a table
-without trees, the status has to be 0 and standard error empty too: a program
-that could not read its input leaves its output empty as well.
+--rows that of rows.c, which makes many calls in one run, and the sheet has a line
+for each; with --islands it is the program of islands, and the sheet has a line
+for each.  It is run once for each case of generate.py, or with --rows of
+generate_rows.py, and its output must be the reference's sheet, byte for byte.  A
+program that is ended by a signal, or runs longer than the time limit for one
+case, counts as a mismatch.  Its exit status and standard error are shown with a
+mismatch but not judged, since document 01 says nothing about them.  Only where
+the sheet is empty, which that of islands is for a table without trees, the status
+has to be 0 and standard error empty too: a program that could not read its input
+leaves its output empty as well.
 
 The exit status is 1 if there was a mismatch, or if one of the refusal numbers
-1, 2, 3, 4, 5, 6, 8 and 10 never came up, or if there were too few tables of a
-sort that the program can go wrong on, so that the comparison says less than it
-seems to; otherwise 0.  A case can be looked at again by writing the same cases to
-files: `generate.py S N OUTDIR`, with --rooted for the program of interchanges and
-with --support for that of support.
+1, 2, 3, 4, 5, 6, 8 and 10, with --rows 1, 2, 3, 4, 5, 8, 10 and 11, never came
+up, or if there were too few tables, or calls, of a sort that the program can go
+wrong on, so that the comparison says less than it seems to; otherwise 0.  A case
+can be looked at again by writing the same cases to files: `generate.py S N
+OUTDIR`, with --rooted for the program of interchanges and with --support for that
+of support; `generate_rows.py S N OUTDIR` for that of rows.
 """
 
 import argparse
 import ast
+import itertools
 import os
 import subprocess
 import sys
 from typing import Callable, NamedTuple
 
 import generate
+import generate_rows
 import reference
 
 DEFAULT_COUNT = 5000
 REFUSALS_OF_THE_LISTER = (1, 2, 3, 4, 5, 6, 8, 10)
+REFUSALS_OF_ROWS = (1, 2, 3, 4, 5, 8, 10, 11)
 MISMATCHES_SHOWN = 5
 BYTES_SHOWN = 700
 SECONDS_PER_CASE = 60
@@ -98,6 +104,59 @@ KIND_FLOORS = {
     "unrooted and full with pairs": 3,
 }
 
+# The same for calls of the program of rows, of which a case has many: less than
+# half of what the generator makes.  What makes numbers the row of no tree is one
+# thing only, or it is "several".
+ROW_FLOORS = {
+    # Text to row: of one leaf, of two, of the most.
+    "row of one leaf": 150,
+    "row of two leaves": 150,
+    "row of 64 leaves": 110,
+    # Row to text: the same, and of the longest text.
+    "text of one leaf": 350,
+    "text of two leaves": 300,
+    "text of 64 leaves": 200,
+    "text of 309 bytes": 200,
+    # No row: nothing; more numbers than labels, whatever else is wrong, since then
+    # something is; fewer; out of order; the same twice; a set of one label or none;
+    # a label that is not in the label set; neither nested nor disjoint.
+    "empty": 180,
+    "too few": 900,
+    "too many": 4000,
+    "out of order": 600,
+    "twice": 600,
+    "small": 700,
+    "foreign": 250,
+    "crossing": 2400,
+    "several": 3300,
+    # The same of 33 labels or more.
+    "large, too few": 400,
+    "large, too many": 1400,
+    "large, out of order": 300,
+    "large, twice": 280,
+    "large, small": 280,
+    "large, foreign": 50,
+    "large, crossing": 1600,
+    "large, several": 2000,
+    # Pairs: one move apart, of many leaves; not; of equal rows.
+    "yes": 1000,
+    "large, yes": 15,
+    "no": 450,
+    "large, no": 15,
+    "equal": 900,
+    # Only row 0 is refused, only row 1, or both would be; row 1 is refused though
+    # its label set is another; label sets differ, or only by one label for another.
+    "row 0": 500,
+    "row 1": 400,
+    "both rows": 300,
+    "row 1 of other labels": 450,
+    "other labels": 800,
+    "as many other labels": 200,
+}
+
+# From so many labels on a row is large.
+LARGE = 33
+
 UNROOTED_MARK = b"[&U]"
 
 
@@ -109,15 +168,30 @@ class Run(NamedTuple):
     status: int
 
 
+def refusals_of_sheet(expected):
+    """The number of a refusal's sheet in a list; none for an accepted table."""
+    return [int(expected.split()[1])] if expected.startswith(b"refused ") else []
+
+
+def refusals_of_lines(expected):
+    """The numbers of all lines that tell of a refusal."""
+    return [number for line in expected.splitlines() for number in refusals_of_sheet(line)]
+
+
 class Subject(NamedTuple):
     """What a program is compared in: the reference's function of the same
-    output; the cases; the sorts that an accepted table is of, given its text and
-    sheet; and how many of each sort there have to be in two thousand cases."""
+    output; the cases; the sorts that an accepted table is of, or that calls are
+    of, given text and sheet; how many of each sort there have to be in two
+    thousand cases; the refusal numbers that have to come up, and those of a sheet;
+    and the calls of a text, where the sheet has a line for each."""
 
     sheet: Callable
     cases: Callable = generate.cases
     sorts: Callable = lambda text, expected: ()
     floors: dict = {}
+    refusals: tuple = REFUSALS_OF_THE_LISTER
+    refused: Callable = refusals_of_sheet
+    calls: Callable = None
 
 
 def both_kinds(sheet):
@@ -179,20 +253,27 @@ def outputs_compared(expected, output):
     return "the outputs differ from byte %d on" % first_difference(expected, output)
 
 
-def show_mismatch(name, text, expected, run):
+def first_other_call(calls, expected, output):
+    """The first call whose line differs, in words."""
+    lines = zip(calls, expected.splitlines(), output.splitlines() + [b""] * len(calls))
+    for (name, arguments), line, other in lines:
+        if line != other:
+            call = b"%s of %s" % (name, b" and ".join(b"%r" % argument for argument in arguments))
+            return "%s; %s; %s" % tuple(map(shown, (call, line, other)))
+    return "none: there is more than a line for each"
+
+
+def show_mismatch(name, subject, text, expected, run):
     """Print one mismatch."""
     print("mismatch in %s" % name)
+    if subject.calls:
+        print("  first call: %s" % first_other_call(list(subject.calls(text)), expected, run.output))
     print("  input:     %s" % shown(text))
     print("  reference: %s" % shown(expected))
     print("  program:   %s" % shown(run.output))
     print("  %s; %s" % (outputs_compared(expected, run.output), how_it_ended(run.status)))
     if run.errors:
         print("  standard error: %s" % shown(run.errors))
-
-
-def refusal_number(expected):
-    """The number of a refusal's sheet, or None for an accepted table."""
-    return int(expected.split()[1]) if expected.startswith(b"refused ") else None
 
 
 def kind_sorts(text, expected):
@@ -281,26 +362,102 @@ def first_label(node):
     return first_label(node[0]) if isinstance(node, tuple) else node
 
 
+def row_sorts(text, expected):
+    """The sorts of ROW_FLOORS that the calls of a case are of, as a list."""
+    makers = {b"row": read_sorts, b"text": written_sorts, b"pair": paired_sorts}
+    return [
+        sort for (name, arguments), line in zip(reference.row_calls(text), expected.splitlines())
+        for sort in makers[name](arguments, line)
+    ]
+
+
+def read_sorts(_, line):
+    """The sorts of text to row; a refused text is of none."""
+    return [] if line.startswith(b"refused") else sorts_by_leaves("row", len(line.split()) - 1)
+
+
+def sorts_by_leaves(call, leaves):
+    """The sorts of an accepted call by the number of leaves."""
+    return ["%s of %s" % (call, words) for number, words in
+            ((1, "one leaf"), (2, "two leaves"), (64, "64 leaves")) if leaves == number]
+
+
+def written_sorts(arguments, line):
+    """The sorts of row to text."""
+    (numbers,) = arguments
+    if not line.startswith(b"refused"):
+        longest = ["text of 309 bytes"] if len(line) == len(b"text ") + 309 else []
+        return sorts_by_leaves("text", len(numbers)) + longest
+    fault = row_fault(numbers)
+    return [fault, "large, " + fault] if numbers and is_large(numbers) else [fault]
+
+
+def is_large(numbers):
+    """Whether the label set in a row has many labels."""
+    return bin(numbers[0]).count("1") >= LARGE
+
+
+def row_fault(numbers):
+    """What makes numbers the row of no tree; None if nothing does.
+
+    This is told by comparing every two, and not by building a tree.
+    """
+    if not numbers:
+        return "empty"
+    labels, *clades = numbers
+    size = bin(labels).count("1")
+    if len(numbers) > size:
+        return "too many"
+    faults = {
+        "too few": len(numbers) < size,
+        "out of order": any(one > other for one, other in zip(clades, clades[1:])),
+        "twice": len(set(clades)) < len(clades),
+        "small": any(clade & (clade - 1) == 0 for clade in clades),
+        "foreign": any(clade & ~labels for clade in clades),
+        "crossing": any(one & other not in (0, one, other) for one, other in itertools.combinations(clades, 2)),
+    }
+    found = [fault for fault in faults if faults[fault]]
+    return "several" if len(found) > 1 else found[0] if found else None
+
+
+def paired_sorts(arguments, line):
+    """The sorts of the pair test on rows."""
+    faults = [row_fault(numbers) for numbers in arguments]
+    if line.startswith(b"refused 11"):
+        if None not in faults:
+            return ["both rows"]
+        other_labels = faults[1] and arguments[1][:1] != arguments[0][:1]
+        return ["row 1 of other labels"] if other_labels else ["row 1"] if faults[1] else ["row 0"]
+    if line.startswith(b"refused"):
+        return ["other labels"] + ["as many other labels"] * (len(arguments[0]) == len(arguments[1]))
+    answer = "equal" if arguments[0] == arguments[1] else line.split()[1].decode()
+    return [answer] + ["large, " + answer] * (is_large(arguments[0]) and answer != "equal")
+
+
 def compare(program, subject, seed, count):
     """Run all cases.  Gives the number of mismatches, refusal counts, and how
-    many accepted tables there were of each sort."""
-    seen = dict.fromkeys(REFUSALS_OF_THE_LISTER, 0)
+    many accepted tables, or calls, there were of each sort."""
+    seen = dict.fromkeys(subject.refusals, 0)
     tables = dict.fromkeys(subject.floors, 0)
     mismatches = 0
     for position, kind, text in subject.cases(seed, count):
         expected = subject.sheet(text)
-        number = refusal_number(expected)
-        if number is not None:
+        numbers = subject.refused(expected)
+        for number in numbers:
             seen[number] += 1
-        else:
+        if subject.calls or not numbers:
             for sort in subject.sorts(text, expected):
                 tables[sort] += 1
         run = run_program(program, text)
         if not agrees(run, expected):
             mismatches += 1
             if mismatches <= MISMATCHES_SHOWN:
-                show_mismatch(generate.file_name(position, kind), text, expected, run)
+                show_mismatch(generate.file_name(position, kind), subject, text, expected, run)
     return mismatches, seen, tables
+
+
+ROWS = Subject(reference.rows_sheet, generate_rows.cases, row_sorts, ROW_FLOORS, REFUSALS_OF_ROWS, refusals_of_lines,
+               reference.row_calls)
 
 
 def main(arguments):
@@ -316,6 +473,8 @@ def main(arguments):
     others.add_argument("--support", action="store_const", dest="subject",
                         const=Subject(reference.support_sheet, generate.support_cases, support_sorts, SUPPORT_FLOORS),
                         help="the program is that of supports.c")
+    others.add_argument("--rows", action="store_const", dest="subject", const=ROWS,
+                        help="the program is that of rows.c")
     others.add_argument("--islands", action="store_const", dest="subject",
                         const=both_kinds(reference.island_sheet), help="the program is that of islands")
     parser.set_defaults(subject=both_kinds(reference.sheet))
@@ -334,7 +493,8 @@ def main(arguments):
     if rare:
         print("seen too seldom: %s" % ", ".join(rare))
     if tables:
-        print("tables seen: %s" % ", ".join("%s: %d" % item for item in tables.items()))
+        counted = ", ".join("%s: %d" % item for item in tables.items())
+        print("%s seen: %s" % ("calls" if subject.calls else "tables", counted))
     print("%d cases, %d mismatches; refusals seen: %s" % (
         options.count, mismatches,
         " ".join("%d:%d" % item for item in seen.items()),

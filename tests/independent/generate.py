@@ -1629,6 +1629,14 @@ def file_name(position, kind):
     return "%05d-%s.txt" % (position, kind)
 
 
+def write_cases(cases_, directory):
+    """Write each case into a file of the directory, which is made if needed."""
+    os.makedirs(directory, exist_ok=True)
+    for position, kind, text in cases_:
+        with open(os.path.join(directory, file_name(position, kind)), "wb") as file:
+            file.write(text)
+
+
 def main(arguments):
     """Write the case files."""
     parser = argparse.ArgumentParser(description="Write test inputs into files.")
@@ -1642,10 +1650,7 @@ def main(arguments):
     parser.add_argument("count", type=int)
     parser.add_argument("directory", metavar="outdir")
     options = parser.parse_args(arguments)
-    os.makedirs(options.directory, exist_ok=True)
-    for position, kind, text in options.cases(options.seed, options.count):
-        with open(os.path.join(options.directory, file_name(position, kind)), "wb") as file:
-            file.write(text)
+    write_cases(options.cases(options.seed, options.count), options.directory)
 
 
 if __name__ == "__main__":

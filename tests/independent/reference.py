@@ -1,7 +1,7 @@
 #!/usr/bin/env python3
 """Reference program for the pair lister, written from document 01 and, for
-interchanges, islands, merged copies, support and unrooted trees, tickets 2, 5,
-6, 7 and 8 of document 02.
+interchanges, islands, merged copies, support, unrooted trees and rows, tickets
+2, 5, 6, 7, 8 and 9 of document 02.
 
     reference.py [--islands]
 
@@ -19,14 +19,19 @@ program of islands.  As a module it offers the calls
     interchanges(text)    Interchanges(pairs, counts), copies kept apart
     islands(text)         Islands(pairs, counts, firsts, numbers), copies merged
     support(text)         Support(clades, majority, trees), copies counted
+    row(text)             the row of the one tree (a list of numbers)
+    row_text(numbers)     the canonical text of the tree of a row (bytes)
+    row_pair(numbers0, numbers1)
+                          True or False: one move apart
 
 and `sheet(text)`, the bytes the command prints, with `interchange_sheet(text)`
 for those of interchanges.c, `graphs_sheet(text)` for those of graphs.c,
-`support_sheet(text)` for those of supports.c and `island_sheet(text)` for those
-of the program of islands.  Texts are bytes.  A call that refuses returns a
-Refusal(number, text, place) instead; it is a tuple and equals the plain tuple
-of the same three numbers.  Trees may be rooted or unrooted, all of a call of one
-kind; cut, interchanges and support take rooted trees only.
+`support_sheet(text)` for those of supports.c, `rows_sheet(calls)` for those of
+rows.c and `island_sheet(text)` for those of the program of islands.  Texts are
+bytes.  A call that refuses returns a Refusal(number, text, place) instead; it is
+a tuple and equals the plain tuple of the same three numbers.  Trees may be rooted
+or unrooted, all of a call of one kind; cut, interchanges, support and row take
+rooted trees only.
 
 How pairs are decided.  A rooted tree's topology is the frozenset of its clades,
 and a clade is a frozenset of labels.  All trees that one move makes from the
@@ -62,6 +67,12 @@ of all trees has for each clade the number of trees in which it occurs.  In the
 majority tree a clade is a child of the smallest clade of this tree that holds
 it and more.  No clade is a number here, except on the sheet.
 
+How rows are read.  The numbers are turned into sets of labels.  Each label of the
+first set is a tree of one leaf at first; then each further set, those of fewer
+labels first, joins the two trees that together have its labels.  If one tree is
+left, and its row is the given list, the list is its row; else it is that of no
+tree.  No two sets are compared with each other.
+
 The values here are returned, not written into lent memory, so refusal 7 (a
 lent slice too short) does not arise.
 """
@@ -82,7 +93,8 @@ BLANKS = b" \t\r\n"
 DIGITS = b"0123456789"
 UNROOTED_MARK = b"[&U]"
 
-# The refusal numbers of document 01, and 10 of ticket 8, that can arise here.
+# The refusal numbers of document 01, 10 of ticket 8 and 11 of ticket 9, that can
+# arise here.
 BAD_BYTE = 1
 BAD_LABEL = 2
 REPEATED_LABEL = 3
@@ -92,10 +104,11 @@ TOO_MANY_TREES = 6
 TEXT_TOO_LONG = 8
 NO_SUCH_CUT = 9
 OTHER_KIND = 10
+NO_ROW = 11
 
 
 class Refusal(NamedTuple):
-    """A refused call: the number, which text (0 or 1), and the place."""
+    """A refused call: the number, which text or row (0 or 1), and the place."""
 
     number: int
     text: int
@@ -497,6 +510,58 @@ def one_move_apart(first, second):
     return first.topology != second.topology and second.topology in reached(first)
 
 
+# Rows
+
+
+def number_of(labels):
+    """The number of a set of labels: label L is bit L - 1."""
+    return sum(2 ** (label - 1) for label in labels)
+
+
+@functools.lru_cache(maxsize=4096)
+def labels_of(number):
+    """The set of labels of a number below 2 to the power 64."""
+    return frozenset(label for label, digit in enumerate(reversed(bin(number)[2:]), 1) if digit == "1")
+
+
+def row_of(tree):
+    """The row of a rooted tree: its label set, then its clades of two or more
+    labels, in ascending order of the numbers."""
+    return [number_of(tree.clade)] + sorted(number_of(clade) for clade in tree.clades if len(clade) >= 2)
+
+
+def tree_of_row(numbers):
+    """The tree that has this row, or None.
+
+    A fork has fewer labels than the one above it, so in a row it is joined
+    first.
+    """
+    if not numbers:
+        return None
+    labels, *clades = map(labels_of, numbers)
+    part_with = {label: leaf(label) for label in labels}
+    for clade in sorted(clades, key=len):
+        parts = {part_with.get(label) for label in clade}
+        if len(parts) != 2 or None in parts:
+            return None
+        made = fork(*parts)
+        if made.clade != clade:
+            return None
+        part_with.update(dict.fromkeys(clade, made))
+    if len(set(part_with.values())) != 1:
+        return None
+    tree = next(iter(part_with.values()))
+    return tree if row_of(tree) == list(numbers) else None
+
+
+def given_row(numbers, which):
+    """The tree of row number `which`, or refusal 11."""
+    tree = tree_of_row(numbers)
+    if tree is None:
+        raise Refused(NO_ROW, which, 0)
+    return tree
+
+
 # Reading
 
 
@@ -709,6 +774,29 @@ def support(text):
     return Support(listed_clades(numbers), majority_text(trees, numbers), len(trees))
 
 
+@returns_refusal
+def row(text):
+    """The row of a text with exactly one tree, a rooted one."""
+    refuse_long_text(text, 0)
+    tree, _ = read_one(text, 0, rooted_only=True)
+    return row_of(tree)
+
+
+@returns_refusal
+def row_text(numbers):
+    """The canonical text of the tree of a row."""
+    return canonical_text(given_row(numbers, 0))
+
+
+@returns_refusal
+def row_pair(numbers0, numbers1):
+    """Whether the trees of two rows are one move apart."""
+    first, second = given_row(numbers0, 0), given_row(numbers1, 1)
+    if first.labels != second.labels:
+        raise Refused(OTHER_LABELS, 1, 0)
+    return one_move_apart(first, second)
+
+
 def table_of(trees):
     """The Table of trees already read."""
     texts = [canonical_text(tree) for tree in trees]
@@ -906,18 +994,60 @@ def island_sheet(text):
 
 
 def support_sheet(text):
-    """What supports.c prints for this standard input.
-
-    Label L of a clade is bit L - 1 of the number that is printed.
-    """
+    """What supports.c prints for this standard input."""
     answer = support(text)
     if isinstance(answer, Refusal):
         return refusal_line(answer)
     lines = [b"trees %d clades %d bytes %d" % (answer.trees, len(answer.clades), len(answer.majority))]
     for labels, number in answer.clades:
-        lines.append(b"clade %d trees %d" % (sum(2 ** (label - 1) for label in labels), number))
+        lines.append(b"clade %d trees %d" % (number_of(labels), number))
     lines.append(b"majority " + answer.majority)
     return b"".join(line + b"\n" for line in lines)
+
+
+def rows_sheet(calls):
+    """What rows.c prints for this standard input: a line for each call."""
+    return b"".join(row_line(name, arguments) + b"\n" for name, arguments in row_calls(calls))
+
+
+def row_calls(calls):
+    """Yield the name and the arguments of each call that rows.c is asked for.
+
+    They are `row LENGTH`, then in a line of its own a text of so many bytes, or
+    `text` and a row, or `pair` and two rows.  Before the numbers of a row stands
+    how many they are.
+    """
+    place = 0
+    while place < len(calls):
+        end = calls.index(b"\n", place)
+        name, *words = calls[place:end].split()
+        place = end + 1
+        if name == b"row":
+            end = place + int(words[0])
+            yield name, [calls[place:end]]
+            place = end + 1
+        else:
+            yield name, rows_in([int(word) for word in words])
+
+
+def rows_in(numbers):
+    """The rows in a list that has before each how many numbers it has."""
+    rows = []
+    while numbers:
+        end = 1 + numbers[0]
+        rows.append(numbers[1:end])
+        numbers = numbers[end:]
+    return rows
+
+
+def row_line(name, arguments):
+    """The line of one of these calls, without its LF."""
+    answer = {b"row": row, b"text": row_text, b"pair": row_pair}[name](*arguments)
+    if isinstance(answer, Refusal):
+        return b"refused %d in %d at %d" % answer
+    if name == b"row":
+        return b" ".join([name] + [b"%d" % number for number in answer])
+    return name + b" " + (answer if name == b"text" else b"yes" if answer else b"no")
 
 
 def refusal_line(refusal):

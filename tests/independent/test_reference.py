@@ -1,7 +1,7 @@
 #!/usr/bin/env python3
 """Checks of reference.py: the samples of document 01, the order of refusals,
-and properties that hold for all trees of each kind, tried on all small and on
-random trees.
+and properties that hold for all trees of each kind and all rows, tried on all
+small and on random ones.
 
     python3 test_reference.py
 """
@@ -17,10 +17,11 @@ import unittest
 
 import compare
 import generate
+import generate_rows
 import reference
 from reference import (
-    cut, form, graph, graph_choosing, interchange_sheet, interchanges, island_sheet, islands, pair, sheet, support,
-    support_sheet, table,
+    cut, form, graph, graph_choosing, interchange_sheet, interchanges, island_sheet, islands, pair, row, row_pair,
+    row_text, rows_sheet, sheet, support, support_sheet, table,
 )
 
 HERE = os.path.dirname(os.path.abspath(__file__))
@@ -1093,6 +1094,143 @@ tree 1 neighbours 0 unlinked 0 [&U](1,2);
             self.assertEqual(sheet(text), b"refused %d at %d\n" % (table(text).number, table(text).place))
 
 
+class Rows(unittest.TestCase):
+    """Text to row, row to text and the pair test on rows, and their refusals."""
+
+    def test_rows(self):
+        """The label set, then the clades ascending as numbers."""
+        for text, numbers in (
+                (b"7;", [64]), (b"64;", [2 ** 63]), (b"(2,1);", [3, 3]), (b"(3,(2,1));", [7, 3, 7]),
+                (b"((2,3),1);", [7, 6, 7]), (b"((1,2),(3,4));", [15, 3, 12, 15]), (b"((1,4),(2,3));", [15, 6, 9, 15]),
+                (b"[&R] ( 64 , ( 2 , 01 ) ) ;", [2 ** 63 + 3, 3, 2 ** 63 + 3])):
+            self.assertEqual(row(text), numbers)
+            self.assertEqual(row_text(numbers), form(text))
+
+    def test_largest(self):
+        """64 numbers, and 309 bytes."""
+        for text in (LEFT_COMB, RIGHT_COMB):
+            self.assertEqual(len(row(text)), 64)
+            self.assertEqual(row_text(row(text)), text)
+        self.assertEqual(row(LEFT_COMB)[1:], [2 ** leaves - 1 for leaves in range(2, 65)])
+
+    def test_refused_texts(self):
+        """As in the form call, but that an unrooted tree is 10 at its `;`."""
+        for _, text in generate.fixed_cases():
+            answer, other = row(text), form(text)
+            if isinstance(answer, reference.Refusal):
+                self.assertIn(answer, (other, (10, 0, answer.place)))
+            else:
+                self.assertEqual(row_text(answer), other)
+        for text, place in ((b"[&U]7;", 5), (b"[&U]7;x", 5), (b"[&U](1,2,3) ;(", 12)):
+            self.assertEqual(row(text), (10, 0, place))
+        self.assertEqual(row(b"[&U]7"), (1, 0, 5))
+        self.assertEqual(row(b"[&U]7;" + b" " * 65530), (8, 0, 0))
+
+    def test_no_rows(self):
+        """Each part of what a row is, left out."""
+        for numbers in (
+                [], [0], [0, 0], [1, 1], [3], [3, 3, 3], [3, 1], [3, 0], [7, 7], [7, 3], [7, 3, 7, 7], [7, 7, 3],
+                [7, 3, 3], [7, 3, 6], [7, 1, 7], [7, 0, 7], [7, 3, 15], [11, 3, 7], [15, 3, 7], [3, 3, 7],
+                [15, 3, 7, 11], [15, 3, 12], [15, 12, 3, 15], [15, 3, 5, 15], [15, 3, 6, 15], [15, 7, 15, 15], [15, 3, 12, 14]):
+            self.assertEqual(row_text(numbers), (11, 0, 0), numbers)
+            self.assertEqual(row_pair(numbers, [1]), (11, 0, 0), numbers)
+            self.assertEqual(row_pair([1], numbers), (11, 1, 0), numbers)
+            self.assertEqual(row_pair(numbers, numbers), (11, 0, 0), numbers)
+
+    def test_pairs(self):
+        """Yes, no, equal; then other labels, which are at row 1."""
+        self.assertIs(row_pair([15, 3, 7, 15], [15, 3, 12, 15]), True)
+        self.assertIs(row_pair([15, 3, 7, 15], [15, 12, 13, 15]), False)
+        self.assertIs(row_pair([7, 3, 7], [7, 3, 7]), False)
+        self.assertIs(row_pair([1], [1]), False)
+        self.assertEqual(row_pair([1], [2]), (5, 1, 0))
+        self.assertEqual(row_pair([7, 3, 7], [3, 3]), (5, 1, 0))
+        self.assertEqual(row_pair([7, 3, 7], [11, 3, 11]), (5, 1, 0))
+
+    def test_sheet(self):
+        """A line for each call, whatever bytes a text has."""
+        calls = (
+            b"row 6\n(1,2);\ntext 3 7 6 7\npair 1 1 1 1\npair 3 7 3 7 3 7 6 7\nrow 3\n\n\r;\ntext 0\n"
+            b"pair 1 1 0\nrow 0\n\n"
+        )
+        expected = (
+            b"row 3 3\ntext (1,(2,3));\npair no\npair yes\nrefused 1 in 0 at 2\nrefused 11 in 0 at 0\n"
+            b"refused 11 in 1 at 0\nrefused 1 in 0 at 0\n"
+        )
+        self.assertEqual(rows_sheet(calls), expected)
+        self.assertEqual(rows_sheet(b""), b"")
+
+
+class AllSmallRows(unittest.TestCase):
+    """Properties tried on all lists for few labels, and on random rows."""
+
+    def test_rows_are_those_of_trees(self):
+        """A list is a row exactly when it is among the rows of all trees on its
+        label set, which are listed; and so it is when nothing is wrong in it."""
+        rows = {}
+        for size in range(5):
+            for labels in itertools.combinations((1, 2, 3, 4), size):
+                self.note_rows(rows, labels)
+        for labels in generate_rows.LABEL_SETS:
+            self.note_rows(rows, labels)
+        accepted = set()
+        for numbers in generate_rows.all_small_rows():
+            answer = row_text(numbers)
+            self.assertEqual(answer, rows.get(tuple(numbers), (11, 0, 0)), numbers)
+            self.assertEqual(compare.row_fault(numbers) is None, tuple(numbers) in rows, numbers)
+            if tuple(numbers) in rows:
+                accepted.add(tuple(numbers))
+        # 3 labels: 3 + 3 + 3 rows.  4 labels: 15 rows for each of three sets.
+        self.assertEqual(len(accepted), 9 + 45)
+
+    def note_rows(self, rows, labels):
+        """Add the rows of all trees on these labels, with their texts."""
+        for nested in generate.all_trees(labels) if labels else ():
+            sets = [as_number(clade) for clade in label_sets(nested) if len(clade) > 1]
+            rows[(as_number(labels),) + tuple(sorted(sets))] = form(text_of(nested))
+
+    def test_rows_are_topologies(self):
+        """As many rows as topologies, and the pair test on rows is that on
+        texts."""
+        for size, expected in zip(range(1, 6), (1, 1, 3, 15, 105)):
+            texts = [text_of(nested) for nested in generate.all_trees((10, 2, 64, 9, 33)[:size])]
+            self.assertEqual(len({tuple(row(text)) for text in texts}), expected)
+            for text, other in itertools.product(texts, texts[::7]):
+                self.assertEqual(row_pair(row(text), row(other)), pair(text, other))
+
+    def test_random_trees(self):
+        """The row does not depend on how a tree is written, leads back to its
+        canonical text, and is the generator's."""
+        rng = random.Random(61)
+        for _ in range(60):
+            tree = generate_rows.random_tree(rng)
+            numbers = row(text_of(tree))
+            self.assertEqual(numbers, row(text_of(generate.swapped(rng, tree))))
+            self.assertEqual(numbers, generate_rows.row(tree))
+            self.assertEqual(row_text(numbers), form(text_of(tree)))
+            self.assertEqual(row(row_text(numbers)), numbers)
+
+    def test_random_pairs(self):
+        """The pair test on rows is that on texts."""
+        for nested in random_pairs(62, 60, range(3, 13)):
+            texts = list(map(text_of, nested))
+            self.assertEqual(row_pair(*map(row, texts)), pair(*texts))
+
+    def test_damaged_rows(self):
+        """A damaged row is that of no tree exactly when something is wrong in it,
+        which is told by comparing every two; else it is the row of its text."""
+        rng = random.Random(63)
+        accepted = 0
+        for _ in range(1500):
+            numbers = generate_rows.damaged(rng, generate_rows.row(generate_rows.random_tree(rng)))
+            text = row_text(numbers)
+            self.assertEqual(text == (11, 0, 0), compare.row_fault(numbers) is not None, numbers)
+            if text != (11, 0, 0):
+                self.assertEqual(row(text), numbers)
+                accepted += 1
+        self.assertTrue(50 < accepted < 700, accepted)
+
+
 class AllSmallTrees(unittest.TestCase):
     """Properties tried on every topology of up to five leaves."""
 
@@ -1883,6 +2021,45 @@ class Generator(unittest.TestCase):
             for output in (sheet(text), island_sheet(text), reference.graphs_sheet(text)):
                 self.assertEqual(compare.has_pairs(output, len(set(firsts))), bool(pairs))
                 self.assertIn("unrooted", compare.kind_sorts(text, output))
+
+    def test_row_cases(self):
+        """Cases of rows are determined too, all kinds and refusals come up, and
+        every call is of the kind that its name says."""
+        fixed = len(generate_rows.fixed_cases())
+        longer = list(generate_rows.cases(3, fixed + 80))
+        self.assertTrue(longer[:fixed + 40] == list(generate_rows.cases(3, fixed + 40)))
+        self.assertFalse(longer == list(generate_rows.cases(4, fixed + 80)))
+        promised = {
+            "row": b"row", "text": b"text", "pair": b"pair", "large-pair": b"pair", "small-trees": (b"row", b"text"),
+            "unrooted": b"refused 10 in 0", "other-labels": b"refused 5 in 1 at 0",
+        }
+        kinds, refused = set(), set()
+        for _, kind, text in longer[fixed - 4:]:
+            output = rows_sheet(text)
+            self.assertEqual(len(output.splitlines()), len(list(reference.row_calls(text))))
+            for line in output.splitlines():
+                self.assertTrue(line.startswith(promised.get(kind, b"")), (kind, line))
+            kinds.add(kind)
+            refused.update(compare.refusals_of_lines(output))
+        self.assertTrue(kinds.issuperset(kind for kind, _, _ in generate_rows.CASE_KINDS), kinds)
+        self.assertEqual(refused, set(compare.REFUSALS_OF_ROWS))
+
+    def test_row_sorts(self):
+        """The sorts of calls that the comparison counts."""
+        sorts = {
+            b"row 2\n7;\n": ["row of one leaf"], b"row 2\n7\n\n": [], b"row 6\n(1,2);\n": ["row of two leaves"],
+            b"text 1 8\n": ["text of one leaf"], b"text 3 7 3 7\n": [], b"text 0\n": ["empty"],
+            b"text 2 7 7\n": ["too few"], b"text 1 0\n": ["too many"], b"text 3 7 7 3\n": ["out of order"],
+            b"text 3 7 3 3\n": ["twice"], b"text 3 7 1 7\n": ["small"], b"text 3 7 3 15\n": ["foreign"],
+            b"text 3 7 3 6\n": ["crossing"], b"text 3 7 6 3\n": ["several"],
+            b"pair 1 1 1 1\n": ["equal"], b"pair 3 7 3 7 3 7 6 7\n": ["yes"], b"pair 0 0\n": ["both rows"],
+            b"pair 0 1 1\n": ["row 0"], b"pair 2 3 3 1 3\n": ["row 1"], b"pair 1 1 1 3\n": ["row 1 of other labels"],
+            b"pair 1 1 2 3 3\n": ["other labels"], b"pair 1 1 1 2\n": ["other labels", "as many other labels"],
+        }
+        for text, expected in sorts.items():
+            self.assertEqual(compare.row_sorts(text, rows_sheet(text)), expected, text)
+        call = generate_rows.text_call([2 ** 64 - 1])
+        self.assertEqual(compare.row_sorts(call, rows_sheet(call)), ["too few", "large, too few"])
 
     def test_mirrored(self):
         """Every fork's children are swapped."""

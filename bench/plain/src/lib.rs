@@ -8,7 +8,9 @@
 //! each edge, as either side may be the moved one (Lemma 2.3). For interchanges the
 //! canonical texts of all trees one interchange away are looked up among those
 //! of the table. Islands are found by uniting sets along the listed pairs. For
-//! clade support the label sets of all forks are counted in a hash map.
+//! clade support the label sets of all forks are counted in a hash map. Rows, the
+//! clades of a tree as numbers, are compared without texts: the clades of a forest
+//! are worked out from those of its tree.
 //!
 //! Copies are trees of one topology. Merged, only the first of them stands in
 //! pairs; kept apart, each of them does. They are never a pair with each other.
@@ -19,6 +21,7 @@
 mod clades;
 mod reader;
 mod rooted;
+mod rows;
 mod tree;
 mod unrooted;
 
@@ -60,8 +63,10 @@ pub const NO_SUCH_CUT: u8 = 9;
 /// The tree is not of the first tree's kind, or is unrooted where only rooted
 /// ones are taken.
 pub const OTHER_KIND: u8 = 10;
+/// The numbers are the row of no tree.
+pub const NO_ROW: u8 = 11;
 
-/// Why a call refuses: the number, which text (0, or 1 for the pair call's
+/// Why a call refuses: the number, which text or row (0, or 1 for a pair's
 /// second) and the place.
 #[derive(Clone, Copy, Debug, PartialEq, Eq)]
 pub struct Refusal {
@@ -196,6 +201,43 @@ pub fn support(text: &[u8]) -> Result<Support, Refusal> {
     Ok(clades::support_of(&rooted))
 }
 
+/// The row of a text with exactly one tree, a rooted one: its label set, then
+/// its clades of two or more labels in ascending order, bit `label - 1` for
+/// each label.
+pub fn row(text: &[u8]) -> Result<Vec<u64>, Refusal> {
+    refuse_long_text(text, 0)?;
+    let (tree, _) = read_one(text, 0, Takes::RootedOnly)?;
+    Ok(tree.rooted().map(rows::row_of).unwrap_or_default())
+}
+
+/// The canonical text of the tree of a row.
+pub fn row_text(row: &[u64]) -> Result<Vec<u8>, Refusal> {
+    Ok(given_row(row, 0)?.canonical_text().to_vec())
+}
+
+/// Whether the trees of two rows are one move apart.
+pub fn row_pair(row: &[u64], other: &[u64]) -> Result<bool, Refusal> {
+    given_row(row, 0)?;
+    given_row(other, 1)?;
+    if row[0] != other[0] {
+        return Err(refused_row(OTHER_LABELS, 1));
+    }
+    Ok(rows::one_move_apart(row, other))
+}
+
+/// The tree of row number `which`.
+fn given_row(row: &[u64], which: u8) -> Result<Rooted, Refusal> {
+    rows::tree_of(row).ok_or(refused_row(NO_ROW, which))
+}
+
+fn refused_row(number: u8, which: u8) -> Refusal {
+    Refusal {
+        number,
+        text: which,
+        place: 0,
+    }
+}
+
 /// The support of a table as text: the numbers of trees and clades, a line for
 /// each clade with its number in base 16 and how many trees have it, and the
 /// majority tree if there is one.
@@ -220,6 +262,43 @@ fn write_support_sheet(text: &[u8], out: &mut Vec<u8>) -> std::io::Result<()> {
         out.push(b'\n');
     }
     Ok(())
+}
+
+/// The pairs of a table of rooted trees that are one move apart, found by the
+/// pair test on every two rows, as text: the numbers of trees and pairs, a line
+/// for each pair.
+pub fn row_sheet(text: &[u8]) -> Vec<u8> {
+    let mut out = Vec::new();
+    write_row_sheet(text, &mut out).expect("writing to a vector does not fail");
+    out
+}
+
+fn write_row_sheet(text: &[u8], out: &mut Vec<u8>) -> std::io::Result<()> {
+    let rows = match rows_of_table(text) {
+        Ok(rows) => rows,
+        Err(refusal) => return write_refusal(refusal, out),
+    };
+    let pairs: Vec<(u16, u16)> = every_two(rows.len())
+        .filter(|&(i, j)| row_pair(&rows[i], &rows[j]) == Ok(true))
+        .map(|(i, j)| (i as u16, j as u16))
+        .collect();
+    writeln!(out, "trees {} pairs {}", rows.len(), pairs.len())?;
+    write_pairs(&pairs, out)
+}
+
+/// The rows of a table of rooted trees.
+pub fn rows_of_table(text: &[u8]) -> Result<Vec<Vec<u64>>, Refusal> {
+    let trees = read_table(text, Takes::RootedOnly)?;
+    Ok(trees
+        .iter()
+        .filter_map(Tree::rooted)
+        .map(rows::row_of)
+        .collect())
+}
+
+/// Every two of so many positions, the smaller first.
+pub fn every_two(positions: usize) -> impl Iterator<Item = (usize, usize)> {
+    (0..positions).flat_map(move |i| (i + 1..positions).map(move |j| (i, j)))
 }
 
 /// The islands of a table as text: a line for each, in order of number, with

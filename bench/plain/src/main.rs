@@ -1,23 +1,66 @@
 //! Reads a table of trees from standard input and prints the sheet; with
 //! `--interchanges`, the graph of interchanges; with `--islands`, the islands,
 //! in which copies are merged; with `--support`, how many trees have each clade
-//! and the majority tree.
+//! and the majority tree; with `--rows`, the pairs that the pair test on every
+//! two rows finds. `--rows --repeat N` prints the shortest times of N rounds in
+//! place of that.
 
+use std::hint::black_box;
 use std::io::{self, Read, Write};
+use std::time::Instant;
 
 fn main() -> io::Result<()> {
-    let printed = match std::env::args().nth(1).as_deref() {
-        None => plain::sheet,
-        Some("--interchanges") => plain::interchange_sheet,
-        Some("--islands") => plain::island_sheet,
-        Some("--support") => plain::support_sheet,
-        Some(other) => panic!("not an option: {other}"),
+    let arguments: Vec<String> = std::env::args().skip(1).collect();
+    let words: Vec<&str> = arguments.iter().map(String::as_str).collect();
+    let printed = match words[..] {
+        [] => plain::sheet,
+        ["--interchanges"] => plain::interchange_sheet,
+        ["--islands"] => plain::island_sheet,
+        ["--support"] => plain::support_sheet,
+        ["--rows"] => plain::row_sheet,
+        ["--rows", "--repeat", rounds] => {
+            let rounds = rounds.parse().expect("a number of rounds");
+            return row_times(&read_input()?, rounds);
+        }
+        _ => panic!("not options: {words:?}"),
     };
-    // One byte above the limit is enough for the refusal.
+    let text = read_input()?;
+    io::stdout().lock().write_all(&printed(&text))
+}
+
+/// One byte above the limit is enough for the refusal.
+fn read_input() -> io::Result<Vec<u8>> {
     let mut text = Vec::new();
     io::stdin()
         .lock()
         .take(plain::MOST_BYTES as u64 + 1)
         .read_to_end(&mut text)?;
-    io::stdout().lock().write_all(&printed(&text))
+    Ok(text)
+}
+
+/// Prints microseconds: of a pair test on two rows, over every two of a table;
+/// and of reading one row, told by a pair with an empty one.
+fn row_times(text: &[u8], rounds: usize) -> io::Result<()> {
+    let rows = plain::rows_of_table(text).expect("a table of rooted trees");
+    let pairs: Vec<(usize, usize)> = plain::every_two(rows.len()).collect();
+    let pair = shortest(rounds, pairs.len(), |k| {
+        let (i, j) = pairs[k];
+        black_box(plain::row_pair(&rows[i], &rows[j])).is_ok()
+    });
+    let check = shortest(rounds, rows.len(), |i| {
+        black_box(plain::row_pair(&rows[i], &[])).is_ok()
+    });
+    writeln!(io::stdout().lock(), "{pair:.3} {check:.3}")
+}
+
+/// The shortest mean time of so many calls, of all rounds, in microseconds.
+fn shortest(rounds: usize, calls: usize, call: impl Fn(usize) -> bool) -> f64 {
+    let round = |_| {
+        let start = Instant::now();
+        for k in 0..calls {
+            call(k);
+        }
+        start.elapsed().as_secs_f64() * 1e6 / calls as f64
+    };
+    (0..rounds).map(round).fold(f64::INFINITY, f64::min)
 }

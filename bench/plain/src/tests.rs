@@ -1,5 +1,5 @@
-//! The samples of document 01, copies, interchanges, islands, clade support and
-//! unrooted trees.
+//! The samples of document 01, copies, interchanges, islands, clade support,
+//! unrooted trees and rows.
 
 use super::*;
 
@@ -791,4 +791,96 @@ pair 2 3
     assert_eq!(String::from_utf8(sheet(trees)).unwrap(), expected);
     assert_eq!(island_sheet(trees), b"island 0 4\n");
     assert_eq!(sheet(b"(1,2);[&U](1,2);"), b"refused 10 at 15\n");
+}
+
+#[test]
+fn rows_of_trees() {
+    assert_eq!(row(b"(3,(2,1));"), Ok(vec![7, 3, 7]));
+    assert_eq!(row(b" 7 ;"), Ok(vec![64]));
+    assert_eq!(row(b"(2,1);"), Ok(vec![3, 3]));
+    assert_eq!(row(b"((1,2),(4,3));"), Ok(vec![15, 3, 12, 15]));
+    assert_eq!(row(b"[&R]((64,2),1);"), {
+        let (clade, all) = (1 << 63 | 2, 1 << 63 | 3);
+        Ok(vec![all, clade, all])
+    });
+    let deepest = row(left_comb(64).as_bytes()).unwrap();
+    assert_eq!((deepest.len(), deepest[1], deepest[63]), (64, 3, u64::MAX));
+    assert_eq!(row_text(&deepest), text(&left_comb(64)));
+    assert_eq!(row(b"(1,2);x"), refused(BAD_BYTE, 6));
+    assert_eq!(row(b"[&U]7;x"), refused(OTHER_KIND, 5));
+    assert_eq!(row(&[b' '; MOST_BYTES + 1]), refused(TEXT_TOO_LONG, 0));
+}
+
+/// Every list of up to four numbers over three labels: each is a row exactly
+/// when it is that of one of the trees on some of these labels.
+#[test]
+fn every_small_row() {
+    let mut trees: HashMap<Vec<u64>, String> = HashMap::new();
+    for tree in ["1;", "2;", "3;", "(1,2);", "(1,3);", "(2,3);"] {
+        trees.insert(row(tree.as_bytes()).unwrap(), tree.to_string());
+    }
+    for tree in ["((1,2),3);", "((1,3),2);", "(1,(2,3));"] {
+        trees.insert(row(tree.as_bytes()).unwrap(), tree.to_string());
+    }
+    let mut lists: Vec<Vec<u64>> = vec![vec![]];
+    for from in 0..1 + 8 + 64 + 512 {
+        for number in 0..8 {
+            lists.push([&lists[from][..], &[number]].concat());
+        }
+    }
+    for list in &lists {
+        let expected = match trees.get(list) {
+            Some(tree) => text(tree),
+            None => refused(NO_ROW, 0),
+        };
+        assert_eq!(row_text(list), expected, "{list:?}");
+    }
+    assert_eq!(lists.len(), 1 + 8 + 64 + 512 + 4096);
+}
+
+/// The pair test on rows beside that on texts, for all trees of five leaves.
+#[test]
+fn pairs_of_rows() {
+    // A leaf is not hung on the whole, so brackets stand around the root.
+    let mut trees = vec![String::from("(1)")];
+    for label in 2..=5 {
+        trees = trees.iter().flat_map(|x| with_a_leaf(x, label)).collect();
+    }
+    let inner = |tree: &String| format!("{};", &tree[1..tree.len() - 1]);
+    let texts: Vec<String> = trees.iter().map(inner).collect();
+    let mut yes = 0;
+    for one in &texts {
+        for other in &texts {
+            let rows = [one, other].map(|x| row(x.as_bytes()).unwrap());
+            let answer = row_pair(&rows[0], &rows[1]);
+            assert_eq!(answer, pair(one.as_bytes(), other.as_bytes()));
+            yes += usize::from(answer == Ok(true));
+        }
+    }
+    assert_eq!((texts.len(), yes > 1_000), (105, true));
+}
+
+#[test]
+fn order_of_the_row_pairs_refusals() {
+    let refused = |number, text| {
+        Err(Refusal {
+            number,
+            text,
+            place: 0,
+        })
+    };
+    assert_eq!(row_pair(&[7, 3, 6], &[3]), refused(NO_ROW, 0));
+    assert_eq!(row_pair(&[1], &[3]), refused(NO_ROW, 1));
+    assert_eq!(row_pair(&[1], &[]), refused(NO_ROW, 1));
+    assert_eq!(row_pair(&[1], &[2]), refused(OTHER_LABELS, 1));
+    assert_eq!(row_pair(&[1], &[3, 3]), refused(OTHER_LABELS, 1));
+    assert_eq!(row_pair(&[3, 3], &[3, 3]), Ok(false));
+}
+
+#[test]
+fn row_sheets() {
+    let table = b"((1,2),3);(3,(2,1));(1,(2,3));";
+    assert_eq!(row_sheet(table), b"trees 3 pairs 2\npair 0 2\npair 1 2\n");
+    assert_eq!(row_sheet(b""), b"trees 0 pairs 0\n");
+    assert_eq!(row_sheet(b"[&U]7;"), b"refused 10 at 5\n");
 }

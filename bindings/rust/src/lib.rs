@@ -7,12 +7,16 @@
 //!
 //! A tree with the mark `[&U]` before it is unrooted, and has three children at the top, or two leaves, or one; a tree
 //! with the mark `[&R]` or none is rooted. Every other fork has two children. The trees of a call are of one kind.
-//! [`cut`], [`interchanges`] and [`support`] take rooted trees only, the other calls either kind.
+//! [`cut`], [`interchanges`], [`support`] and [`row`] take rooted trees only, the other calls either kind.
 //!
 //! Trees of one topology are copies of each other, however they are written; two copies are never a pair. The first
 //! position of a topology is the smallest position whose tree has it. [`graph`] and [`islands`] merge copies: only
 //! first positions stand in pairs. [`graph_choosing`] can keep copies apart, and [`interchanges`] always does.
 //! [`support`] counts every copy.
+//!
+//! A rooted tree can also be held as its row of numbers: its label set, then its clades of two or more labels in
+//! ascending order, with bit L − 1 set for each label L. [`row`] and [`row_text`] turn texts into rows and back, and
+//! [`row_pair`] compares two rows.
 //!
 //! ```
 //! assert_eq!(norbelath::form(b"(3,(2,1));").unwrap(), b"((1,2),3);");
@@ -36,6 +40,10 @@
 //! let support = norbelath::support(trees).unwrap();
 //! assert_eq!(support.clades, [(0b111, 3), (0b011, 2), (0b110, 1)]);
 //! assert_eq!(support.majority, b"((1,2),3);");
+//! let row = norbelath::row(b"(1,(3,2));").unwrap();
+//! assert_eq!(row, [0b111, 0b110, 0b111]);
+//! assert_eq!(norbelath::row_text(&row).unwrap(), b"(1,(2,3));");
+//! assert_eq!(norbelath::row_pair(&row, &[0b111, 0b011, 0b111]), Ok(true));
 //! let table = norbelath::table(b"(2,1); (1,2);").unwrap();
 //! assert_eq!(table.trees().collect::<Vec<_>>(), [b"(1,2);", b"(1,2);"]);
 //! assert_eq!(norbelath::sheet(b"(1,2);"), b"trees 1 pairs 0\ntree 0 neighbours 0 unlinked 0 (1,2);\n");
@@ -44,6 +52,8 @@
 //! assert_eq!((refusal.number, refusal.place), (norbelath::Refusal::WRONG_BYTE, 4));
 //! let refusal = norbelath::table(b"(1,2); [&U](1,2);").unwrap_err();
 //! assert_eq!((refusal.number, refusal.place), (norbelath::Refusal::OTHER_KIND, 16));
+//! let refusal = norbelath::row_pair(&row, &[0b111, 0b011, 0b110]).unwrap_err();
+//! assert_eq!((refusal.number, refusal.text), (norbelath::Refusal::NO_ROW, 1));
 //! ```
 
 use std::error::Error;
@@ -77,6 +87,10 @@ pub const SUPPORT_CLADES: usize = 9_921;
 pub const SUPPORT_TREES: usize = 9_921;
 /// The least length of the slice lent to [`support_into`] for the majority tree.
 pub const SUPPORT_OUT: usize = 309;
+/// Numbers of the longest row, and the least length of the slice lent to [`row_into`].
+pub const ROW: usize = 64;
+/// The least length of the slice lent to [`row_text_into`].
+pub const ROW_TEXT_OUT: usize = 309;
 /// The least length of the slice lent to [`sheet_into`].
 pub const SHEET_OUT: usize = 221_542;
 
@@ -180,6 +194,30 @@ extern "C" {
         second: *mut u64,
         third: *mut u64,
     ) -> u8;
+    fn norbelath_row(
+        text: *const u8,
+        text_len: usize,
+        row: *mut u64,
+        row_len: usize,
+        first: *mut u64,
+        second: *mut u64,
+    ) -> u8;
+    fn norbelath_row_text(
+        row: *const u64,
+        row_len: usize,
+        out: *mut u8,
+        out_len: usize,
+        first: *mut u64,
+        second: *mut u64,
+    ) -> u8;
+    fn norbelath_row_pair(
+        row: *const u64,
+        row_len: usize,
+        other: *const u64,
+        other_len: usize,
+        first: *mut u64,
+        second: *mut u64,
+    ) -> u8;
     fn norbelath_sheet(
         text: *const u8,
         text_len: usize,
@@ -212,11 +250,12 @@ impl Copies {
 /// Why a call refuses. No lent slice is changed then.
 #[derive(Clone, Copy, Debug, PartialEq, Eq, Hash)]
 pub struct Refusal {
-    /// One of the numbers below, 1 to 10.
+    /// One of the numbers below, 1 to 11.
     pub number: u8,
-    /// Which text: 0, or 1 for the pair call's other.
+    /// Which text or row: 0, or 1 for the other of a pair.
     pub text: u8,
-    /// The place in that text, counted from 0; its length where it ends too soon. 0 for 7, 8 and 9.
+    /// The place in that text, counted from 0; its length where it ends too soon. 0 for 7, 8, 9 and 11, and where rows
+    /// are read.
     pub place: usize,
 }
 
@@ -241,6 +280,8 @@ impl Refusal {
     pub const NO_SUCH_CUT: u8 = 9;
     /// Not of the first tree's kind, or unrooted in a call for rooted trees only; the place is the `;` of the tree.
     pub const OTHER_KIND: u8 = 10;
+    /// Numbers that are the row of no tree; the place is 0.
+    pub const NO_ROW: u8 = 11;
 }
 
 impl fmt::Display for Refusal {
@@ -258,6 +299,7 @@ impl fmt::Display for Refusal {
             Refusal::OTHER_KIND => {
                 "not of the first tree's kind, or unrooted where only rooted trees are taken"
             }
+            Refusal::NO_ROW => "numbers that are the row of no tree",
             _ => "unknown",
         };
         write!(
@@ -569,6 +611,55 @@ pub fn support_into(
     })
 }
 
+/// Writes the row of a text's one tree, a rooted one, into `row`, of at least [`ROW`] numbers. Gives how many it has.
+pub fn row_into(text: &[u8], row: &mut [u64]) -> Result<usize, Refusal> {
+    let (numbers, _) = answer(|first, second| unsafe {
+        norbelath_row(
+            text.as_ptr(),
+            text.len(),
+            row.as_mut_ptr(),
+            row.len(),
+            first,
+            second,
+        )
+    })?;
+    Ok(numbers)
+}
+
+/// Writes the canonical text of the tree of a row into `out`, of at least [`ROW_TEXT_OUT`] bytes. Gives its length.
+pub fn row_text_into(row: &[u64], out: &mut [u8]) -> Result<usize, Refusal> {
+    let (bytes, _) = answer(|first, second| unsafe {
+        norbelath_row_text(
+            row.as_ptr(),
+            row.len(),
+            out.as_mut_ptr(),
+            out.len(),
+            first,
+            second,
+        )
+    })?;
+    Ok(bytes)
+}
+
+/// Whether one move makes the tree of `row` that of `other`, of the same labels and a different topology, as [`pair`]
+/// tells of two texts.
+///
+/// A slice that is the row of no tree is refused first, `row` before `other`, and then other labels are. In a refusal
+/// `text` says which of the two it is.
+pub fn row_pair(row: &[u64], other: &[u64]) -> Result<bool, Refusal> {
+    let (yes, _) = answer(|first, second| unsafe {
+        norbelath_row_pair(
+            row.as_ptr(),
+            row.len(),
+            other.as_ptr(),
+            other.len(),
+            first,
+            second,
+        )
+    })?;
+    Ok(yes == 1)
+}
+
 /// Writes what the pair lister prints for a text into `out`, of at least [`SHEET_OUT`] bytes. Gives its length.
 ///
 /// A text that is refused has its sheet too, the line `refused N at P`: the only refusal is [`Refusal::SHORT_SLICE`].
@@ -700,6 +791,26 @@ pub fn support(text: &[u8]) -> Result<Support, Refusal> {
         trees: size.trees,
         majority,
     })
+}
+
+/// The row of a text's one tree, a rooted one: its label set, then its clades of two or more labels in ascending order.
+/// They are as many numbers as the tree has leaves.
+///
+/// Bit L − 1 of a number is set for each label L. The row of one leaf is its label set alone, that of two leaves the
+/// same number twice. Two trees have the same row exactly when they have the same topology.
+pub fn row(text: &[u8]) -> Result<Vec<u64>, Refusal> {
+    let mut row = vec![0; ROW];
+    let numbers = row_into(text, &mut row)?;
+    row.truncate(numbers);
+    Ok(row)
+}
+
+/// The canonical text of the tree of a row. The slice is one row and nothing more, so its length is part of it.
+pub fn row_text(row: &[u64]) -> Result<Vec<u8>, Refusal> {
+    let mut out = vec![0; ROW_TEXT_OUT];
+    let bytes = row_text_into(row, &mut out)?;
+    out.truncate(bytes);
+    Ok(out)
 }
 
 /// What the pair lister prints for a text: the sheet of its trees, or the line of its refusal.

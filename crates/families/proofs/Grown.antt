@@ -1,6 +1,6 @@
 -- A tree that grows to a clade: the leaf of its one label, or a fork of what grows to the first child and to the rest.
 -- Assumes nothing.
-use mathlib.Core.Path.{_≡_, refl, sym, ap, _∙_}
+use mathlib.Core.Path.{_≡_, refl, sym, ap, subst, _∙_}
 use mathlib.Core.List.{List}
 use Prim.Native.Nat.{ℕ, _+_, _-_, _≤_, _<_}
 use native.Mathlib.Omega.{arith}
@@ -53,3 +53,10 @@ grown-fork {cs} {c} (fork a b) g h = go (g .grows)
           first-less = omega (arith, n, w, ap size f, size-leaves A, some-leaves b);
           second-less = omega (arith, n, w, ap size r, size-leaves B, some-leaves a);
         }
+
+-- what grows to a fork's two parts, where f is its first child
+pub first-grown : {cs : List ℕ} {c f : ℕ} {t : Tree} → f ≡ firstChild cs c → (F : Forked cs c t) → GrowsTo cs f (F .first)
+first-grown {cs} e F = subst (λ (x : ℕ). GrowsTo cs x (F .first)) (sym e) (F .first-grows)
+
+pub second-grown : {cs : List ℕ} {c f : ℕ} {t : Tree} → f ≡ firstChild cs c → (F : Forked cs c t) → GrowsTo cs (c - f) (F .second)
+second-grown {cs} {c} e F = subst (λ (x : ℕ). GrowsTo cs x (F .second)) (ap (λ (y : ℕ). c - y) (sym e)) (F .second-grows)

@@ -1,9 +1,9 @@
--- Clades of two or more labels, any two nested or disjoint: they are among those of the binary tree that grows from them, so they are fewer than labels.
+-- Clades of two or more labels, any two nested or disjoint: they are among those of the binary tree that grows from them, so they are fewer than labels, and where one fewer, all of that tree's.
 -- Assumes nothing.
 use mathlib.Core.Path.{_≡_, refl, sym, ap, ap₂, _∙_, subst}
 use mathlib.Core.Logic.{_⊎_, inl, inr, _≢_}
 use mathlib.Core.Bool.{Bool, true, false, cond, not}
-use mathlib.Core.List.{List, List·Memᴰ, List·Memᴰ·head, List·Memᴰ·tail, Memᴰ·append-left, Memᴰ·append-right, Memᴰ·cast}
+use mathlib.Core.List.{List, _∷_, List·Memᴰ, List·Memᴰ·head, List·Memᴰ·tail, Memᴰ·append-left, Memᴰ·append-right, Memᴰ·cast}
 use Prim.Native.Nat.{ℕ, zero, suc, _+_, _-_, _^_, _≤_, _<_}
 use native.Mathlib.Omega.{arith}
 use native.Mathlib.Decide.{ℕ-discrete}
@@ -11,17 +11,18 @@ use lib.Count.{trailingZeros}
 use lib.Dec.{T, leb, leb→le, nleb→lt}
 use lib.ListN.{length}
 use Rattle.meaning.specs.Limits.{maxLabel}
-use Rattle.meaning.specs.Lists.{NoDup}
+use Rattle.meaning.specs.Lists.{member, NoDup}
 use Rattle.meaning.specs.Tree.{Tree, leaf, fork, In, Good, Canonical, least}
 use Rattle.meaning.specs.Clade.{digit, HasLabel, lowest, clade}
-use Rattle.meaning.proofs.Lists.{in-member}
+use Rattle.meaning.proofs.Logic.{clash}
+use Rattle.meaning.proofs.Lists.{member-in, in-member}
 use Rattle.meaning.proofs.Sums.{no-longer}
 use Rattle.meaning.proofs.Same.{in-leaf}
 use Rattle.meaning.proofs.Canon.{least-in}
 use Rattle.meaning.proofs.Labels.{some-leaves}
 use Rattle.meaning.proofs.LabelBits.{Under, digit-le, digit-zero, under-le, under-iff, clear-iff, pow-has, lowest-in, lowest-le}
 use Rattle.meaning.proofs.Clade.{label-iff, lowest-least}
-use Rattle.families.specs.Clades.{size, clades}
+use Rattle.families.specs.Clades.{size, clades, SameMembers}
 use Rattle.families.specs.Grown.{firstChild, grow, Grows}
 use Rattle.families.specs.Majority.{Single, Tidy, mark}
 use Rattle.families.proofs.Sizes.{digit-sub, under-self, under-trans, clear-parts, label-64, rest-clear, rest-under, rest-sum, rest-size, size-le, size-none, size-pow, under-size}
@@ -36,10 +37,10 @@ pub record Family (cs : List ℕ) : Type 0 where
 
 module _ (cs : List ℕ) (F : Family cs) where
   -- c is not empty, and fits all of the family
-  record Suits (c : ℕ) : Type 0 where
-    some : 0 < c
-    small : c < 2 ^ 64
-    fits : (d : ℕ) → List·Memᴰ d cs → Fit d c
+  pub record Suits (c : ℕ) : Type 0 where
+    pub some : 0 < c
+    pub small : c < 2 ^ 64
+    pub fits : (d : ℕ) → List·Memᴰ d cs → Fit d c
 
   -- t is a tree with the labels of c, in canonical order, and the family's clades in c are among its clades
   pub record Made (c : ℕ) (t : Tree) : Type 0 where
@@ -50,7 +51,7 @@ module _ (cs : List ℕ) (F : Family cs) where
     pub tidy : Tidy (mark cs t)
     pub grows : Grows cs t
 
-  first-child : (c : ℕ) → Suits c → 2 ≤ size c → First cs c (firstChild cs c)
+  pub first-child : (c : ℕ) → Suits c → 2 ≤ size c → First cs c (firstChild cs c)
   first-child c S h = go (firstChild cs c) refl (first-choice cs c) (λ d m u n i. first-most cs c d m (leads-of c d u n i))
     where
       one : size (2 ^ trailingZeros 64 c) ≡ 1
@@ -72,7 +73,7 @@ module _ (cs : List ℕ) (F : Family cs) where
 
   module _ {c f : ℕ} (S : Suits c) (A : First cs c f) where
     -- a clade in c is c itself, or lies in the first child or in the rest
-    split : (d : ℕ) → List·Memᴰ d cs → Under d c → (d ≡ c) ⊎ (Under d f ⊎ Under d (c - f))
+    pub split : (d : ℕ) → List·Memᴰ d cs → Under d c → (d ≡ c) ⊎ (Under d f ⊎ Under d (c - f))
     split d m u = go (ℕ-discrete d c) (A .suits d m)
       where
         go : Dec (d ≡ c) → Fit d f → (d ≡ c) ⊎ (Under d f ⊎ Under d (c - f))
@@ -235,3 +236,17 @@ module _ (cs : List ℕ) (F : Family cs) where
     -- so there are fewer clades than labels
     pub family-few : suc (length cs) ≤ size s
     family-few = omega (arith, no-longer cs (clades (grow maxLabel cs s)) (F .once) has-all, tree-length)
+
+    -- and where there is one fewer, they are the clades of that tree
+    pub family-all : suc (length cs) ≡ size s → SameMembers (clades (grow maxLabel cs s)) cs
+    family-all e d = (λ m. go (member d cs) refl m, has-all d)
+      where
+        again : List·Memᴰ d (clades (grow maxLabel cs s)) → (l : ℕ) → List·Memᴰ l (d ∷ cs) → List·Memᴰ l (clades (grow maxLabel cs s))
+        again m l (List·Memᴰ·head q) = Memᴰ·cast q m
+        again m l (List·Memᴰ·tail n) = has-all l n
+
+        go : (b : Bool) → member d cs ≡ b → List·Memᴰ d (clades (grow maxLabel cs s)) → List·Memᴰ d cs
+        go true q m = member-in d cs q
+        go false q m =
+            let new : List·Memᴰ d cs → ⊥ = λ n. let r = in-member n in clash cc in
+            absurd (omega (arith, e, tree-length, no-longer (d ∷ cs) (clades (grow maxLabel cs s)) (new, F .once) (again m)))

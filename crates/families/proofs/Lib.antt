@@ -11,6 +11,12 @@ pub mod Majority
 pub mod MajorityText
 pub mod Prefix
 pub mod Reordered
+pub mod Row
+pub mod RowCalls
+pub mod RowPair
+pub mod RowSamples
+pub mod RowSteps
+pub mod RowTest
 pub mod Samples
 pub mod Sizes
 pub mod Sorted

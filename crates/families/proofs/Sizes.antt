@@ -105,6 +105,10 @@ pub size-zero : size 0 ≡ 0
 unfolding size
 size-zero = none-in maxLabel
 
+pub size-some : (x : ℕ) → 0 < size x → 0 < x
+size-some zero h = absurd (omega (arith, size-zero))
+size-some (suc x) h = omega arith
+
 pub size-none : (x : ℕ) → x < 2 ^ 64 → size x ≡ 0 → x ≡ 0
 unfolding size
 size-none x h e = in-none maxLabel x h e

@@ -1,3 +1,3 @@
-pub mod Growing
+pub mod Listed
 pub mod Texts
 pub mod Whole

@@ -1,18 +1,18 @@
 -- The text of a tree that grows from clades, by its node.
 -- Assumes nothing.
-use mathlib.Core.Path.{_≡_, refl, sym, ap, subst, _∙_}
+use mathlib.Core.Path.{_≡_, sym, ap, subst, _∙_}
 use mathlib.Core.Bool.{Bool, true, false}
 use mathlib.Core.List.{List, [], _∷_, _++_, append-nil, append-assoc}
-use Prim.Native.Nat.{ℕ, _+_, _-_, _≤_, _<_}
+use Prim.Native.Nat.{ℕ, _+_, _<_}
 use native.Mathlib.Omega.{arith}
 use lib.ListN.{length, set, length-append}
 use Rattle.meaning.specs.Lists.{member}
-use Rattle.meaning.specs.Tree.{Tree as Topology, leaf, fork, digits}
+use Rattle.meaning.specs.Tree.{Tree as Topology, digits}
 use Rattle.meaning.specs.Clade.{lowest, clade}
 use Rattle.lent.specs.Runs.{Wrote}
 use Rattle.lent.proofs.Runs.{wrote-one, wrote-more}
 use Rattle.families.specs.Clades.{size}
-use Rattle.families.specs.Grown.{firstChild, GrowsTo}
+use Rattle.families.specs.Grown.{GrowsTo}
 use Rattle.families.specs.Majority.{Multi, join, writeMulti, mark}
 use Rattle.families.proofs.Grown.{grown-leaf, Forked}
 use Rattle.majority.specs.Texts.{bracket, marked}
@@ -30,13 +30,6 @@ leaf-text {cs} t g h = ap (marked cs) (grown-leaf t g h)
 pub wrote-leaf : {cs : List ℕ} {c n v : ℕ} (t : Topology) → GrowsTo cs c t → n ≡ size c → n < 2 → v ≡ lowest c
     → {out out′ : List ℕ} {at r : ℕ} → Wrote (digits v) out out′ at r → Wrote (marked cs t) out out′ at r
 wrote-leaf t g e h f {out} {out′} {at} {r} w = subst (λ (l : List ℕ). Wrote l out out′ at r) (ap digits f ∙ sym (leaf-text t g (omega (arith, e, h)))) w
-
--- what grows to a fork's two parts, where f is its first child
-pub first-grown : {cs : List ℕ} {c f : ℕ} {t : Topology} → f ≡ firstChild cs c → (F : Forked cs c t) → GrowsTo cs f (F .first)
-first-grown {cs} e F = subst (λ (x : ℕ). GrowsTo cs x (F .first)) (sym e) (F .first-grows)
-
-pub second-grown : {cs : List ℕ} {c f : ℕ} {t : Topology} → f ≡ firstChild cs c → (F : Forked cs c t) → GrowsTo cs (c - f) (F .second)
-second-grown {cs} {c} e F = subst (λ (x : ℕ). GrowsTo cs x (F .second)) (ap (λ (y : ℕ). c - y) (sym e)) (F .second-grows)
 
 -- a fork's text by its parts, where `node` says whether c is listed
 module _ {cs : List ℕ} {c : ℕ} {t : Topology} (g : GrowsTo cs c t) (F : Forked cs c t) {node : Bool} (said : node ≡ member c cs) where

@@ -1,34 +1,32 @@
 // The majority tree of a table, written as text. Its clades stand at the front of the list of support.
-pub mod grown;
-
 use held::Table;
 ghost use mathlib.Core.Path.{_≡_};
 ghost use mathlib.Core.List.{List};
 ghost use Prim.Native.Nat.{_+_, _*_, _≤_};
 ghost use lib.Dec.{ltb};
 ghost use lib.ListN.{length, take};
+ghost use Rattle.meaning.specs.Lists.{member};
 ghost use Rattle.meaning.specs.Tree.{Tree as Topology};
-ghost use Rattle.meaning.specs.Clade.{lowest};
 ghost use Rattle.lent.specs.Runs.{Wrote};
 ghost use Rattle.held.specs.Kept.{KeepsAll};
-ghost use Rattle.families.specs.Clades.{size};
 ghost use Rattle.families.specs.Grown.{GrowsTo};
 ghost use Rattle.families.specs.Majority.{majorityText};
 ghost use Rattle.majority.specs.Front.{Front};
 ghost use Rattle.majority.specs.Texts.{bracket, marked, CladeRoom, MajorityRoom};
 
-// How many labels a clade has.
-fn labels(c: u64) -> u32
-    ensures { λ r. ⌜ r ≡ size c ⌝ }
+// Whether c is one of the first k clades.
+fn is_listed(clades: &[u64], k: usize, c: u64) -> bool
+    requires { ⌜ k ≤ length (now clades) ⌝ }
+    ensures { λ r. ⌜ r ≡ member c (take k (now (clades .entry))) ⌝ }
 {
-    u64::count_ones(c)
-}
-
-// The smallest label of a clade.
-fn smallest(c: u64) -> usize
-    ensures { λ r. ⌜ r ≡ lowest c ⌝ }
-{
-    u64::trailing_zeros(c) as usize + 1
+    let mut i = k;
+    while i > 0 {
+        i -= 1;
+        if clades[i] == c {
+            return true;
+        }
+    }
+    false
 }
 
 // Writes a bracket, if the clade is a node; returns the place behind it.
@@ -50,11 +48,11 @@ fn write_clade(out: &mut [u8], at: usize, clades: &[u64], k: usize, c: u64) -> u
         ((t : Topology) → GrowsTo (take k (now (clades .entry))) c t
         → Wrote (marked (take k (now (clades .entry))) t) (now (out .entry)) (now (out .exit)) at r) ⌝ }
 {
-    if labels(c) < 2 {
-        return writing::write_number(out, at, smallest(c));
+    if forks::labels(c) < 2 {
+        return writing::write_number(out, at, forks::smallest(c));
     }
-    let node = grown::is_listed(clades, k, c);
-    let child = grown::first_child(clades, k, c);
+    let node = is_listed(clades, k, c);
+    let child = forks::grown::first_child(clades, k, c);
     let first = write_bracket(out, at, b'(', node);
     let comma = write_clade(out, first, clades, k, child);
     out[comma] = b',';

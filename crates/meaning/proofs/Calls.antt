@@ -3,7 +3,7 @@
 use mathlib.Core.Path.{_≡_, refl, sym, subst}
 use mathlib.Core.Logic.{_↔_, _⊎_, inl, inr}
 use mathlib.Core.Bool.{Bool, true, false, cond, _&&_}
-use mathlib.Core.List.{List, [], _∷_, map, List·Memᴰ}
+use mathlib.Core.List.{List, [], _∷_, _++_, map, List·Memᴰ}
 use Prim.Native.Nat.{ℕ, zero, suc, _-_, _*_, _≤_, _<_}
 use native.Mathlib.Omega.{arith}
 use borrow.Author.Tests.{ltb-true}
@@ -52,7 +52,7 @@ module _ {A : Type 0} {P : A → Type 0} {Q : ℕ → ℕ → ℕ → Type 0} wh
   tells-refusal (accepts h) e = clash cc
   tells-refusal {n} {i} {p} (denies {n = m} {i = j} {p = q} h) e = let x : m ≡ n = cc in let y : j ≡ i = cc in let z : q ≡ p = cc in rw (← x, ← y, ← z) h
 
-  lent-tells : (b : Bool) {a : Answer A} → Q 7 0 0 → Tells P Q a → Tells P Q (lent b a)
+  pub lent-tells : (b : Bool) {a : Answer A} → Q 7 0 0 → Tells P Q a → Tells P Q (lent b a)
   lent-tells true h t = t
   lent-tells false h t = denies h
 
@@ -63,7 +63,7 @@ module _ {A : Type 0} {P : A → Type 0} {Q : ℕ → ℕ → ℕ → Type 0} wh
   answered-tells i (got x p) f g = accepts (f x p refl)
   answered-tells i (refused n p) f g = denies (g n p refl)
 
-  onward-tells : {B : Type 0} {P′ : B → Type 0} {a : Answer B} (next : B → Answer A) → Tells P′ Q a → ((x : B) → P′ x → Tells P Q (next x)) → Tells P Q (onward a next)
+  pub onward-tells : {B : Type 0} {P′ : B → Type 0} {a : Answer B} (next : B → Answer A) → Tells P′ Q a → ((x : B) → P′ x → Tells P Q (next x)) → Tells P Q (onward a next)
   onward-tells next (accepts h) f = f _ h
   onward-tells next (denies h) f = denies h
 
@@ -74,7 +74,7 @@ pub record Line (lines : List ℕ) (s : List ℕ) (n i p : ℕ) : Type 0 where
   pub place : p ≤ length s
 
 -- a refusal of text 0 at place 0
-at-zero : {lines s : List ℕ} {n : ℕ} → T (any (eqb n) lines) → Line lines s n 0 0
+pub at-zero : {lines s : List ℕ} {n : ℕ} → T (any (eqb n) lines) → Line lines s n 0 0
 at-zero t = record { number = one-of t; text = refl; place = omega arith }
 
 stands : (s : List ℕ) {n p : ℕ} → Standing s n p → p ≤ length s
@@ -99,9 +99,14 @@ tree-tells : (takes : Takes) (s : List ℕ) → Tells (OneTree takes s) (Line (o
 tree-tells takes s =
     answered-tells 0 (readTree takes s) (λ x p e. let (T, z) = read-iff takes x s .0 (p, e) in (read-good takes s x p e, T, z)) (λ n p e. read-line s (read-refused s takes n p e))
 
+-- the calls that read one tree and are lent memory
+pub lent-tree-tells : (takes : Takes) (b : Bool) (s : List ℕ) → Tells (OneTree takes s) (Line (oneRefusals takes ++ (7 ∷ 8 ∷ [])) s) (lent b (limited 0 s (answered 0 (readTree takes s))))
+lent-tree-tells either b s = lent-tells b (at-zero tt) (limited-tells 0 s (at-zero tt) (more-lines tt (tree-tells either s)))
+lent-tree-tells rooted-only b s = lent-tells b (at-zero tt) (limited-tells 0 s (at-zero tt) (more-lines tt (tree-tells rooted-only s)))
+
 -- the form call
 pub form-tells : (s out : List ℕ) → Tells (OneTree either s) (Line formRefusals s) (formRead s out)
-form-tells s out = lent-tells (enough (formSlices out)) (at-zero tt) (limited-tells 0 s (at-zero tt) (more-lines tt (tree-tells either s)))
+form-tells s out = lent-tree-tells either (enough (formSlices out)) s
 
 -- the cut call: the tree is rooted, and the cut number is one of the tree's
 pub record CutTree (s : List ℕ) (c : ℕ) (t : Tree) : Type 0 where

@@ -6,7 +6,7 @@ use mathlib.Core.List.{List, List·Memᴰ}
 use Prim.Native.Nat.{ℕ, _≤_}
 use lib.Dec.{T, leb, leb→le}
 use Rattle.meaning.specs.Lists.{every}
-use Rattle.meaning.specs.Tree.{Tree}
+use Rattle.meaning.specs.Tree.{Tree, form}
 use Rattle.meaning.specs.Kind.{Trees}
 use Rattle.meaning.specs.EitherKind.{formAs}
 use Rattle.meaning.specs.Move.{cutAt, forest}
@@ -18,7 +18,11 @@ use Rattle.meaning.specs.Sheet.{SheetCall, gives}
 use Rattle.meaning.proofs.Calls.{Tells, accepts, denies, tells-refusal, form-tells, cut-tells, pair-tells, table-call-tells, graph-tells, firsts-tells, islands-tells, sheet-call-tells}
 use Rattle.meaning.proofs.Lists.{every-mem}
 use Rattle.families.specs.SupportCall.{SupportMemory, supportOf, supportCall}
+use Rattle.families.specs.Row.{row}
+use Rattle.families.specs.RowCalls.{rowCall, rowTextCall, RowPairCall}
 use Rattle.families.proofs.SupportCall.{support-tells}
+use Rattle.families.proofs.RowCalls.{row-tells, row-text-tells}
+use Rattle.families.proofs.RowPair.{rows-tells, rows-line}
 use Rattle.norbelath.specs.Coded.{Numbered}
 
 -- 0 is none of the lines
@@ -42,6 +46,17 @@ table-numbered s memory = concluded memory (λ table. tableOf table memory) (tab
 
 pub support-numbered : (s : List ℕ) (memory : SupportMemory) → Numbered (supportCall s memory .answer)
 support-numbered s memory = concluded memory (λ table. supportOf (table .trees) memory) (support-tells s memory) (λ n i p l. from-one tt (l .number)) (λ table. tt)
+
+pub row-numbered : (s out : List ℕ) → Numbered (rowCall s out .answer)
+row-numbered s out = concluded out (λ x. textOf (row (x .tree)) out) (row-tells s out) (λ n i p l. from-one tt (l .number)) (λ x. tt)
+
+pub row-text-numbered : (xs out : List ℕ) → Numbered (rowTextCall xs out .answer)
+row-text-numbered xs out = concluded out (λ t. textOf (form t) out) (row-text-tells xs out) (λ n i p l. from-one tt (l .number)) (λ t. tt)
+
+pub row-pair-numbered : {xs ys : List ℕ} {a : Answer Bool} → RowPairCall xs ys a → Numbered a
+row-pair-numbered (RowPairCall.is-apart t u e h) = tt
+row-pair-numbered (RowPairCall.not-apart t u e h) = tt
+row-pair-numbered {xs} {ys} (RowPairCall.refuses n i p e) = from-one tt (rows-line (tells-refusal (rows-tells xs ys) e))
 
 pub pair-numbered : {s s′ : List ℕ} {a : Answer Bool} → PairCall s s′ a → Numbered a
 pair-numbered (is-apart x y e h) = tt

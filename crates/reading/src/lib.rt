@@ -43,6 +43,8 @@ impl Refusal {
     pub const NO_SUCH_CUT: u8 = 9;
 
     pub const OTHER_KIND: u8 = 10;
+
+    pub const NO_ROW: u8 = 11;
 }
 
 // Where reading goes on in the text and among the nodes, or why it ends.

@@ -1,6 +1,7 @@
 // Runs the samples that are not proved ones, and the edges of the calls, and prints a line for each.
 mod clade_samples;
 mod listing_samples;
+mod row_samples;
 mod unrooted_samples;
 
 use calls::PairAnswer;
@@ -221,6 +222,7 @@ fn main() {
     unrooted_samples::all();
     listing_samples::graphs();
     clade_samples::supports();
+    row_samples::rows();
     listing_samples::sheets();
     short_slices();
     long_texts();

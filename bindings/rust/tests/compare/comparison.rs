@@ -2,8 +2,8 @@
 
 use norbelath::{Copies, Graph, GraphSize, Interchanges, Islands, Refusal, Support, SupportSize};
 use norbelath::{Table, TableSize, CUT_OUT, FORM_OUT, GRAPH_COUNTS, GRAPH_FIRSTS, GRAPH_PAIRS};
-use norbelath::{ISLANDS, SHEET_OUT, SUPPORT_CLADES, SUPPORT_OUT, SUPPORT_TREES};
-use norbelath::{TABLE_ENDS, TABLE_TEXTS};
+use norbelath::{ISLANDS, ROW, ROW_TEXT_OUT, SHEET_OUT, SUPPORT_CLADES, SUPPORT_OUT};
+use norbelath::{SUPPORT_TREES, TABLE_ENDS, TABLE_TEXTS};
 
 use crate::generator::Random;
 
@@ -145,14 +145,14 @@ impl LentSupport {
 /// The comparisons of a test, and how many calls were accepted (at 0) and refused with each number.
 pub struct Comparison {
     pub random: Random,
-    answers: [usize; 11],
+    answers: [usize; 12],
 }
 
 impl Comparison {
     pub fn new(seed: u64) -> Comparison {
         Comparison {
             random: Random::new(seed),
-            answers: [0; 11],
+            answers: [0; 12],
         }
     }
 
@@ -166,7 +166,7 @@ impl Comparison {
     /// Ends a test: it met each of these refusals so many times or more; 0 stands for accepted.
     pub fn met(&self, test: &str, least: &[(usize, usize)]) {
         let (accepted, refused) = (self.answers[0], &self.answers[1..]);
-        println!("{test}: {accepted} accepted, refused 1 to 10: {refused:?}");
+        println!("{test}: {accepted} accepted, refused 1 to 11: {refused:?}");
         for &(number, times) in least {
             let met = self.answers[number];
             assert!(met >= times, "{number} was met {met} times only");
@@ -176,7 +176,7 @@ impl Comparison {
     pub fn form(&mut self, text: &[u8]) {
         let expected = plain::form(text).map_err(refusal);
         assert_eq!(norbelath::form(text), expected, "{}", shown(text));
-        self.text_call(FORM_OUT, text, expected, |out| {
+        self.text_call(FORM_OUT, &shown(text), expected, |out| {
             norbelath::form_into(text, out)
         });
     }
@@ -189,7 +189,7 @@ impl Comparison {
             "cut {cut} of {}",
             shown(text)
         );
-        self.text_call(CUT_OUT, text, expected, |out| {
+        self.text_call(CUT_OUT, &shown(text), expected, |out| {
             norbelath::cut_into(text, cut, out)
         });
     }
@@ -198,33 +198,80 @@ impl Comparison {
     pub fn sheet(&mut self, text: &[u8]) {
         let expected = plain::sheet(text);
         assert_eq!(norbelath::sheet(text), expected, "{}", shown(text));
-        self.text_call(SHEET_OUT, text, Ok(expected), |out| {
+        self.text_call(SHEET_OUT, &shown(text), Ok(expected), |out| {
             norbelath::sheet_into(text, out)
         });
     }
 
-    /// A call that writes a text, lent enough and too little.
+    /// A call that writes a text, lent enough and too little; `shown` is what it gets, for messages.
     fn text_call(
         &mut self,
         least: usize,
-        text: &[u8],
+        shown: &str,
         expected: Result<Vec<u8>, Refusal>,
         call: impl Fn(&mut [u8]) -> Result<usize, Refusal>,
     ) {
+        self.written(least, |x| x as u8, shown, expected, call);
+    }
+
+    /// The same of any elements, which `of` makes of noise.
+    fn written<T: Copy + PartialEq>(
+        &mut self,
+        least: usize,
+        of: fn(u64) -> T,
+        shown: &str,
+        expected: Result<Vec<T>, Refusal>,
+        call: impl Fn(&mut [T]) -> Result<usize, Refusal>,
+    ) {
         let len = enough(&mut self.random, least);
-        let mut out = Lent::new(&mut self.random, len, |x| x as u8);
+        let mut out = Lent::new(&mut self.random, len, of);
         let answer = call(&mut out.slice);
         let written = expected.as_deref().unwrap_or(&[]);
-        assert!(out.holds(written), "{}", shown(text));
-        assert_eq!(answer, expected.map(|text| text.len()), "{}", shown(text));
+        assert!(out.holds(written), "{shown}");
+        assert_eq!(answer, expected.map(|text| text.len()), "{shown}");
         self.count(&answer);
 
         let len = too_short(&mut self.random, least);
-        let mut out = Lent::new(&mut self.random, len, |x| x as u8);
+        let mut out = Lent::new(&mut self.random, len, of);
         let answer = call(&mut out.slice);
-        assert!(out.holds(&[]), "{}", shown(text));
-        assert_eq!(answer, Err(SHORT), "{}", shown(text));
+        assert!(out.holds(&[]), "{shown}");
+        assert_eq!(answer, Err(SHORT), "{shown}");
         self.count(&answer);
+    }
+
+    /// Gives the answer, for tests that go on with it.
+    pub fn row(&mut self, text: &[u8]) -> Option<Vec<u64>> {
+        let expected = plain::row(text).map_err(refusal);
+        let returned = norbelath::row(text);
+        assert_eq!(returned, expected, "{}", shown(text));
+        self.written(
+            ROW,
+            |x| x,
+            &shown(text),
+            expected,
+            |row| norbelath::row_into(text, row),
+        );
+        returned.ok()
+    }
+
+    /// Gives the answer, for tests that go on with it.
+    pub fn row_text(&mut self, row: &[u64]) -> Option<Vec<u8>> {
+        let expected = plain::row_text(row).map_err(refusal);
+        let returned = norbelath::row_text(row);
+        assert_eq!(returned, expected, "{row:?}");
+        self.text_call(ROW_TEXT_OUT, &format!("{row:?}"), expected, |out| {
+            norbelath::row_text_into(row, out)
+        });
+        returned.ok()
+    }
+
+    /// Gives the answer, for tests that want to see both.
+    pub fn row_pair(&mut self, row: &[u64], other: &[u64]) -> Option<bool> {
+        let expected = plain::row_pair(row, other).map_err(refusal);
+        let answer = norbelath::row_pair(row, other);
+        assert_eq!(answer, expected, "{row:?} and {other:?}");
+        self.count(&answer);
+        answer.ok()
     }
 
     /// Gives the answer, for tests that want to see both.

@@ -341,3 +341,30 @@ pub fn damage(random: &mut Random, text: &mut Vec<u8>) {
         }
     }
 }
+
+/// Damages a row in one place, at times in more, and at times puts the clades in order again. It has a number or more.
+pub fn damage_row(random: &mut Random, row: &mut Vec<u64>) {
+    for _ in 0..random.pick(&[1, 1, 1, 2]) {
+        let (at, to) = (random.below(row.len()), random.below(row.len()));
+        let (label, any) = (1 << random.below(64), random.next());
+        match random.below(10) {
+            0 => row[at] ^= label,
+            1 => row[at] ^= label & row[0],
+            2 => row[at] = random.pick(&[0, u64::MAX, label, row[0], row[0] & any]),
+            3 => row.swap(at, to),
+            4 => drop(row.remove(at)),
+            5 => row.insert(at, row[at]),
+            6 => row.push(random.pick(&[0, u64::MAX, row[0], row[at]])),
+            7 => row[0] ^= label,
+            8 => row[1..].reverse(),
+            // One label for another, so that two clades cross.
+            _ => row[at] ^= row[0] & (label | label.rotate_left(1)),
+        }
+        if row.is_empty() {
+            return;
+        }
+        if random.percent(50) {
+            row[1..].sort_unstable();
+        }
+    }
+}

@@ -4,7 +4,7 @@ mod comparison;
 mod generator;
 
 use comparison::Comparison;
-use generator::{chains, damage, labels, most_clades, Kind, Random, Tree};
+use generator::{chains, damage, damage_row, labels, most_clades, Kind, Random, Tree};
 use norbelath::{Graph, Islands, Support, MAX_TEXT, MAX_TREES, SUPPORT_CLADES};
 
 /// Every text of up to so many of these bytes.
@@ -51,6 +51,7 @@ fn every_short_text() {
     let mut compare = Comparison::new(1);
     for (i, text) in every_text(b"(),;12 0", 5).iter().enumerate() {
         compare.form(text);
+        compare.row(text);
         compare.cut(text, i as u64 % 4);
         compare.support(text);
         compare.pair(text, b"(2,1);");
@@ -81,6 +82,7 @@ fn every_short_mark_and_top() {
     let tops = tops.iter().map(|text| [b"[&U](1,", &text[..]].concat());
     for text in marks.into_iter().chain(tops) {
         compare.form(&text);
+        compare.row(&text);
         compare.cut(&text, 0);
         compare.pair(&text, b"[&U](1,2);");
         compare.pair(b"[&U]1;", &text);
@@ -193,6 +195,7 @@ fn damaged_texts() {
         let mut other = whole.clone();
         damage(&mut compare.random, &mut other);
         compare.form(&text);
+        compare.row(&text);
         for cut in some_cuts(&mut compare.random, tree.nodes() - 1) {
             compare.cut(&text, cut);
         }
@@ -480,6 +483,82 @@ fn support_of_most_clades() {
     compare.met("support of most clades", &[(0, 2)]);
 }
 
+/// Text to row, and back to the canonical text, for trees of every number of leaves, rooted or not.
+#[test]
+fn rows_of_trees() {
+    let mut compare = Comparison::new(20);
+    for (turn, leaves) in (1..=64).cycle().take(3_200).enumerate() {
+        let set = labels(&mut compare.random, leaves);
+        let tree = Tree::random(&mut compare.random, &set);
+        let kind = [Kind::Rooted, Kind::Rooted, Kind::Rooted, Kind::Unrooted][turn % 4];
+        let text = tree.text_as(kind, &mut compare.random, 5);
+        if let Some(row) = compare.row(&text) {
+            assert_eq!(row.len(), leaves);
+            let canonical = compare.row_text(&row).expect("the row of a tree");
+            assert_eq!(Ok(&canonical), norbelath::form(&text).as_ref());
+            assert_eq!(norbelath::row(&canonical), Ok(row));
+        }
+    }
+    compare.met("rows of trees", &[(0, 4_000), (7, 5_000), (10, 700)]);
+}
+
+/// Every list of up to five numbers over three labels, and damaged rows of every number of leaves.
+#[test]
+fn slices_that_are_no_rows() {
+    let mut compare = Comparison::new(21);
+    for list in every_text(&[0, 1, 2, 3, 4, 5, 6, 7], 5) {
+        let list: Vec<u64> = list.into_iter().map(u64::from).collect();
+        compare.row_text(&list);
+    }
+    for leaves in (1..=64).cycle().take(6_400) {
+        let set = labels(&mut compare.random, leaves);
+        let text = Tree::random(&mut compare.random, &set).text(&mut compare.random, 0);
+        let mut row = compare.row(&text).expect("a rooted tree");
+        damage_row(&mut compare.random, &mut row);
+        compare.row_text(&row);
+    }
+    let least = [(0, 6_500), (7, 40_000), (11, 35_000)];
+    compare.met("slices that are no rows", &least);
+}
+
+/// Two rows after no move, one, two and many, beside the pair call on the texts; some with other labels, some damaged.
+#[test]
+fn pairs_of_rows() {
+    let mut compare = Comparison::new(22);
+    let (mut yes, mut no) = (0, 0);
+    for turn in 0..8_000 {
+        let leaves = 1 + compare.random.below([64, 8][turn % 2]);
+        let set = labels(&mut compare.random, leaves);
+        let tree = Tree::random(&mut compare.random, &set);
+        let mut other = tree.clone();
+        if turn % 9 == 0 {
+            let set = labels(&mut compare.random, leaves);
+            other = Tree::random(&mut compare.random, &set);
+        }
+        for _ in 0..compare.random.pick(&[0, 1, 1, 2, 3, 20]) {
+            other = other.moved(&mut compare.random);
+        }
+        let texts = [tree, other].map(|x| x.text(&mut compare.random, 0));
+        let [mut row, mut other] = [0, 1].map(|i| compare.row(&texts[i]).expect("a rooted tree"));
+        let answer = compare.row_pair(&row, &other);
+        assert_eq!(answer, norbelath::pair(&texts[0], &texts[1]).ok());
+        match answer {
+            Some(true) => yes += 1,
+            Some(false) => no += 1,
+            None => {}
+        }
+        if turn % 3 > 0 {
+            damage_row(&mut compare.random, &mut row);
+        }
+        if turn % 3 < 2 {
+            damage_row(&mut compare.random, &mut other);
+        }
+        compare.row_pair(&row, &other);
+    }
+    compare.met("pairs of rows", &[(0, 20_000), (5, 400), (11, 6_000)]);
+    assert!(yes >= 1_500 && no >= 1_500, "{yes} yes and {no} no only");
+}
+
 /// What the pair lister prints: small tables, whole and damaged, the largest, and texts around the limit.
 #[test]
 fn sheets() {
@@ -561,6 +640,7 @@ fn long_texts() {
             text[at..at + tree.len()].copy_from_slice(&tree);
         }
         compare.form(&text);
+        compare.row(&text);
         compare.cut(&text, 0);
         compare.pair(&text, &tree);
         compare.pair(&tree, &text);
@@ -594,6 +674,7 @@ fn deep_texts() {
         }
         text.push(b';');
         compare.form(&text);
+        compare.row(&text);
         compare.cut(&text, turn as u64 % 130);
         compare.pair(&text, b"1;");
         compare.table(&text);

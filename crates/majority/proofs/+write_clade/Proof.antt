@@ -1,6 +1,6 @@
 -- `majority::write_clade` meets its contract. The measure of the walk is the labels of the clade.
 -- Assumes nothing.
-use mathlib.Core.Path.{_≡_, sym, ap, subst, _∙_}
+use mathlib.Core.Path.{_≡_, ap, subst, _∙_}
 use mathlib.Core.List.{List}
 use Prim.Native.Nat.{ℕ, _+_, _-_, _≤_, _<_}
 use native.Mathlib.Omega.{arith}
@@ -13,18 +13,18 @@ use Rattle.meaning.proofs.Clade.{clade-some}
 use Rattle.lent.specs.Runs.{Wrote}
 use Rattle.lent.proofs.Runs.{wrote-length}
 use Rattle.families.specs.Clades.{size}
-use Rattle.families.specs.Grown.{firstChild, GrowsTo}
-use Rattle.families.proofs.Grown.{Forked, grown-fork}
+use Rattle.families.specs.Grown.{GrowsTo}
+use Rattle.families.proofs.Grown.{Forked, grown-fork, first-grown, second-grown}
 use Rattle.majority.specs.Texts.{bracket, marked}
-use Rattle.majority.proofs.Texts.{leaf-text, wrote-leaf, first-grown, second-grown, fork-length, wrote-fork}
+use Rattle.majority.proofs.Texts.{leaf-text, wrote-leaf, fork-length, wrote-fork}
 use Rattle.majority.proofs.write_clade.Reads as own
 use Rattle.majority.proofs.write_clade.Kinds as kinds
 use Rattle.majority.proofs.+write_clade.Lts-write_clade as lts
-use Rattle.majority.proofs.labels.Reads as labels-reads
-use Rattle.majority.proofs.smallest.Reads as smallest-reads
+use Rattle.forks.proofs.labels.Reads as labels-reads
+use Rattle.forks.proofs.smallest.Reads as smallest-reads
 use Rattle.majority.proofs.write_bracket.Reads as bracket-reads
-use Rattle.majority.proofs.grown.first_child.Reads as child-reads
-use Rattle.majority.proofs.grown.is_listed.Reads as listed-reads
+use Rattle.forks.proofs.grown.first_child.Reads as child-reads
+use Rattle.majority.proofs.is_listed.Reads as listed-reads
 use Rattle.writing.proofs.write_number.Reads as number-reads
 use Rattle.majority.proofs.+write_clade.{statement}
 use Rattle.majority.proofs.+write_clade.Tie.{close}

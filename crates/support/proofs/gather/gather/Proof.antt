@@ -1,6 +1,5 @@
 -- `support::gather::gather` meets its contract. The loop's invariant: the clades of the first i trees are gathered.
 -- Assumes nothing.
-use mathlib.Core.Path.{_≡_, sym, _∙_}
 use mathlib.Core.List.{List, map}
 use Prim.Native.Nat.{ℕ, _-_, _≤_, _<_}
 use native.Mathlib.Omega.{arith}
@@ -53,8 +52,7 @@ note-clades-requires c κs =
     let p = u .before .before .pre in
     record {
       kept = kept-at (p .0) (u .before .loop .i) (u .loop-test .taken);
-      room = omega (arith, known u .few, few u);
-      long = wrote-length (known u .wrote) ∙ p .1;
+      room = omega (arith, known u .few, few u, wrote-length (known u .wrote), p .1);
     }
 
 add-i : tie.Need-add-i Inv-loop μ-loop

@@ -1,0 +1,5 @@
+pub mod Nodes
+pub mod Noted
+pub mod Places
+pub mod Settling
+pub mod Whole
