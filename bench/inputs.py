@@ -1,5 +1,6 @@
 #!/usr/bin/env python3
-"""Benchmark inputs for the pair lister, the support call and the row calls.
+"""Benchmark inputs for the pair lister, the support call, the row calls and the
+index calls.
 
     inputs.py OUTDIR
 
@@ -33,7 +34,7 @@ For the support call some of the rooted ones, and one more of the same size:
                  there are as many clades as a table can have
 
 For the row calls the first 40 trees of some of the rooted ones: `unrelated_40x64`
-and so on.
+and so on.  For the index calls `unrelated`, `chain` and `copies`.
 
 Without copies: `distinct_of_near_copies`, the first tree of each topology of
 `near_copies`.
@@ -279,6 +280,7 @@ FULL_TABLES = (unrelated, chain, near_copies, combs, copies, interchange_chain, 
 UNROOTED_TABLES = (unrelated, chain, near_copies, combs, copies, one_forest)
 SUPPORT_TABLES = (most_clades, unrelated, near_copies, copies, combs, chain, one_forest)
 ROW_TABLES = (unrelated, chain, near_copies, combs, one_forest)
+INDEX_TABLES = (unrelated, chain, copies)
 
 
 # Texts
@@ -365,6 +367,12 @@ def row_inputs():
     """Yield (name, text) for each input of the row calls."""
     for make in ROW_TABLES:
         yield sized(make, ROW_TREES, LEAVES), text_of(table_of(make, LEAVES)[:ROW_TREES])
+
+
+def index_inputs():
+    """Yield (name, text) for each input of the index calls."""
+    for make in INDEX_TABLES:
+        yield make.__name__, text_of(table_of(make, LEAVES))
 
 
 def write_inputs(directory, named):

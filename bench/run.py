@@ -4,6 +4,7 @@
     run.py [OUR_PROGRAM] [--interchanges | --islands] [--repeat N] [--picture FILE]
     run.py [OUR_PROGRAM] --support [--repeat N]
     run.py [OUR_PROGRAM] --rows [--repeat N]
+    run.py [OUR_PROGRAM] --index [--repeat N]
 
 OUR_PROGRAM is the path of an executable that reads a table of trees from
 standard input and prints the sheet; if it is left out, the pair lister is built
@@ -38,6 +39,13 @@ out.  It and the plain one try the pair test on every two rows of some tables of
 64 leaves, and their pairs must be the same.  Times are those of one call, without
 reading the file and printing: the mean over a table, the best of N rounds, which
 the programs print with --repeat.
+
+With --index OUR_PROGRAM is that of index.c, built in the same way if it is left
+out.  It and the plain one add the 160 trees of some full tables to an index, one
+after another, and their lists of neighbours and the bytes of their memories must
+be the same.  Times are taken as with --rows: of a question to the full index, of
+looking through its memory alone, of adding the last tree, of adding all of them,
+and, beside that, of the graph call on the same table.
 """
 
 import argparse
@@ -129,6 +137,11 @@ def build_rows(directory):
     return build_over_library("rows", directory)
 
 
+def build_index(directory):
+    """Build the program of index.c and give its path."""
+    return build_over_library("index", directory)
+
+
 def output_of(command, path):
     """What the program prints for this input."""
     with open(path, "rb") as text:
@@ -202,6 +215,7 @@ INTERCHANGES = Sheet("--interchanges", None, ("plain",), "pairs", trees_and_pair
 ISLANDS = Sheet("--islands", None, ("plain",), "islands", trees_and_islands)
 SUPPORT = Sheet("--support", build_support, ("plain",), "clades", trees_and_clades, both_kinds=False)
 ROWS = Sheet("--rows", build_rows, ("plain",), "pairs", trees_and_pairs, both_kinds=False)
+INDEX = Sheet("--index", build_index, ("plain",), "pairs", trees_and_pairs, both_kinds=False)
 
 
 def size_of(path, sheet, output):
@@ -343,6 +357,26 @@ def measure_rows(commands, repeat, directory):
         print(row((name,) + size, columns + ["%.2f" % ours[2]]), flush=True)
 
 
+# What the programs of --index measure, in this order.
+INDEX_TIMES = ("question", "check alone", "last addition", "all additions", "graph call")
+
+
+def measure_index(commands, repeat, directory):
+    """Print the table of the index calls, a line for each of their times."""
+    columns = ("ours ms", "plain ms", "ours/plain")
+    print(row(("input", "trees", "leaves", INDEX.counted), ("%-13s" % "time",) + columns))
+    for name, path in inputs.write_inputs(os.path.join(directory, "inputs"), inputs.index_inputs()):
+        size = size_of(path, INDEX, compared_output(commands, path))
+        times = zip(INDEX_TIMES, *(call_microseconds(command, path, repeat) for command in commands))
+        for what, ours, plain in times:
+            columns = ("%.3f" % (ours / 1e3), "%.3f" % (plain / 1e3), "%.2f" % (ours / plain))
+            print(row((name,) + size, ("%-13s" % what,) + columns), flush=True)
+
+
+# The sheets of which no process is timed, but each call on its own.
+MEASURED_BY_CALL = {ROWS: measure_rows, INDEX: measure_index}
+
+
 def run(ours, sheet, repeat, drawn, directory):
     """Build, measure, print the table and draw the picture."""
     options = [sheet.option] if sheet.option else []
@@ -352,9 +386,9 @@ def run(ours, sheet, repeat, drawn, directory):
     print("CPU: %s, %d cores" % (cpu_model(), os.cpu_count() or 0))
     print(rustc_version())
 
-    if sheet is ROWS:
+    if sheet in MEASURED_BY_CALL:
         print("best of %d rounds\n" % repeat)
-        measure_rows(commands, repeat, directory)
+        MEASURED_BY_CALL[sheet](commands, repeat, directory)
         return
     start = start_times(commands, repeat, directory)
     named = ", ".join("%s %.2f ms" % pair for pair in zip(programs, start))
@@ -393,6 +427,8 @@ def main(arguments):
                         help="OUR_PROGRAM is that of support.c; built for this machine if left out")
     others.add_argument("--rows", action="store_const", dest="sheet", const=ROWS,
                         help="OUR_PROGRAM is that of rows.c; built for this machine if left out")
+    others.add_argument("--index", action="store_const", dest="sheet", const=INDEX,
+                        help="OUR_PROGRAM is that of index.c; built for this machine if left out")
     parser.set_defaults(sheet=PAIRS)
     parser.add_argument("--repeat", metavar="N", type=positive, default=DEFAULT_REPEAT)
     parser.add_argument("--picture", metavar="FILE", help="where to write the picture")
@@ -402,7 +438,7 @@ def main(arguments):
         parser.error("not an executable file: %s" % options.program)
     if not options.sheet.build and not program:
         parser.error("%s needs OUR_PROGRAM" % options.sheet.option)
-    if options.sheet in (SUPPORT, ROWS) and options.picture:
+    if options.sheet in (SUPPORT, ROWS, INDEX) and options.picture:
         parser.error("%s has no picture" % options.sheet.option)
     try:
         with tempfile.TemporaryDirectory() as directory:

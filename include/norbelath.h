@@ -1,13 +1,14 @@
 /*
  * Norbelath: binary trees, rooted or unrooted, as texts, and which of them are one prune and regraft apart.
  *
- * Thirteen calls over lent memory. They allocate nothing, keep nothing between calls and may be called from several
- * threads at once. On x86-64 the row calls use up to 20 KB of stack, the table call up to 120 KB, the support call up to
- * 300 KB, the graph, interchange and islands calls up to 360 KB, and the sheet call up to 440 KB. Any bytes may be given
- * as a text: what is not as it should be is refused, with the reason and the place.
+ * Fifteen calls over lent memory. They allocate nothing, keep nothing between calls but what an index in lent memory
+ * holds, and may be called from several threads at once, while none adds to the same index. On x86-64 the row and index
+ * calls use up to 20 KB of stack, the table call up to 120 KB, the support call up to 300 KB, the graph, interchange and
+ * islands calls up to 360 KB, and the sheet call up to 440 KB. Any bytes may be given as a text or as an index: what is
+ * not as it should be is refused, with the reason and the place.
  *
  * A text is a pointer and its length in bytes; it needs no byte 0 at its end. A lent slice is a pointer and its length in
- * elements. No pointer is NULL. The slices and numbers that a call may write overlap neither each other nor a text.
+ * elements. No pointer is NULL. The slices and numbers that a call may write overlap neither each other nor what it reads.
  *
  * The result is 0 where the call is accepted, and else the number of the refusal. The lent numbers receive:
  *
@@ -24,13 +25,16 @@
  *   row             numbers written              0
  *   row text        bytes written                0
  *   row pair        1 for yes, 0 for no          0
+ *   index add       the tree's number            0
+ *   index           neighbours                   0
+ *   neighbours
  *   refused         which text or row: 0, or 1   the place: an offset in that text,
  *                   for the other of a pair      its length where it ends too soon
  *
  * The support call has a third number, *third: the trees, and 0 where it is refused.
  *
- * An accepted call writes from the start of each lent slice on and changes nothing behind what it writes. A refusal
- * changes no lent slice.
+ * An accepted call writes from the start of each lent slice on and changes nothing behind what it writes; of an index,
+ * nothing behind its 60,640 bytes. A refusal changes no lent slice.
  *
  * A tree is written as follows; blanks (space, tab, CR, LF) may stand before each label, sign and mark, and a mark has
  * none inside:
@@ -42,7 +46,7 @@
  *
  * [&U] marks an unrooted tree; [&R], or no mark, a rooted one. Only the canonical text of an unrooted tree has the mark.
  * The trees of a call are of one kind and have the same labels. The form, pair, table, graph, graph choosing, islands and
- * sheet calls take trees of either kind; the cut, interchange, support and row calls take rooted trees only.
+ * sheet calls take trees of either kind; the cut, interchange, support, row and index calls take rooted trees only.
  *
  * A clade is the set of labels at and below a node, as a number with bit L - 1 set for each label L. The row of a rooted
  * tree is its label set, then its clades of two or more labels in ascending order: as many numbers as the tree has leaves.
@@ -55,7 +59,19 @@
  * Trees of one topology are copies of each other, however they are written; two copies are never a pair. The first
  * position of a topology is the smallest position whose tree has it. The graph call and the islands call merge copies:
  * only first positions stand in pairs, and a later copy is in none. The graph choosing call can keep copies apart, so
- * that every position may stand in pairs; the interchange call always keeps them apart.
+ * that every position may stand in pairs; the interchange call and the index always keep them apart.
+ *
+ * An index holds up to 160 rooted trees of one label set, each under a number of 0 to 159, in 60,640 bytes of lent
+ * memory. Zeros are the empty index. One set of held trees has one memory, so an index may be copied, stored and compared
+ * as bytes:
+ *
+ *   from byte 127 x on    slot x, 127 bytes: the tree with the number x in canonical order, a byte for each node in the
+ *                         order in which they begin in the canonical text: a leaf's is its label, a fork's 64 more than
+ *                         it has leaves; then zeros. Zeros alone where no tree has the number.
+ *   from byte 20,320 on   an entry for each cut of each held tree, two bytes: the tree's number and the cut. They stand
+ *                         in byte order of what the cut call writes, ties by tree and then cut; then zeros.
+ *
+ * Each call looks whether the memory is that of a set of held trees. What lies behind it is neither read nor changed.
  */
 #ifndef NORBELATH_H
 #define NORBELATH_H
@@ -67,7 +83,7 @@
 extern "C" {
 #endif
 
-/* Limits: bytes of a text, trees of a table. */
+/* Limits: bytes of a text, trees of a table or an index. */
 #define NORBELATH_MAX_TEXT 65535
 #define NORBELATH_MAX_TREES 160
 
@@ -89,6 +105,8 @@ extern "C" {
 #define NORBELATH_SUPPORT_OUT 309
 #define NORBELATH_ROW 64
 #define NORBELATH_ROW_TEXT_OUT 309
+#define NORBELATH_INDEX_BYTES 60640
+#define NORBELATH_INDEX_LIST 160
 #define NORBELATH_SHEET_OUT 221542
 
 /* The choices of the graph choosing call. Any number but 0 keeps copies apart. */
@@ -96,21 +114,23 @@ extern "C" {
 #define NORBELATH_KEEP_COPIES 1
 
 /*
- * Results. The place of a refusal is given behind each; 7, 8, 9 and 11 have place 0, and so has every refusal of the row
- * text and row pair calls.
+ * Results. The place of a refusal is given behind each; 7, 8, 9, 11, 12 and 13 have place 0, and so has every refusal of
+ * the row text and row pair calls, and 6 of the index add call.
  */
 #define NORBELATH_ACCEPTED 0
 #define NORBELATH_WRONG_BYTE 1     /* a byte that cannot stand there, or the text ends too soon: that byte, or the length */
 #define NORBELATH_BAD_LABEL 2      /* a label that is not 1 to 64: its first digit */
 #define NORBELATH_LABEL_AGAIN 3    /* a label that is already in this tree: its first digit */
 #define NORBELATH_TOO_DEEP 4       /* a bracket that opens while 63 are open: that bracket */
-#define NORBELATH_LABELS_DIFFER 5  /* labels other than the first tree's: the `;` of the tree that differs */
-#define NORBELATH_TOO_MANY_TREES 6 /* any byte but a blank after 160 trees: that byte */
+#define NORBELATH_LABELS_DIFFER 5  /* labels other than the first or the held trees': the `;` of the tree that differs */
+#define NORBELATH_TOO_MANY_TREES 6 /* any byte but a blank after 160 trees: that byte; or a tree while 160 are held */
 #define NORBELATH_SHORT_SLICE 7    /* a lent slice that is too short */
 #define NORBELATH_LONG_TEXT 8      /* a text above 65,535 bytes */
 #define NORBELATH_NO_SUCH_CUT 9    /* a cut number that the tree does not have */
 #define NORBELATH_OTHER_KIND 10    /* not of the first tree's kind, or unrooted in a call for rooted trees only: its `;` */
 #define NORBELATH_NO_ROW 11        /* numbers that are the row of no tree */
+#define NORBELATH_NO_INDEX 12      /* memory that is that of no set of held trees */
+#define NORBELATH_NOT_HELD 13      /* a number that no held tree has */
 
 /* Form call: the canonical text of the one tree of a text, `;` included, and the mark of an unrooted tree. */
 uint8_t norbelath_form(const uint8_t *text, size_t text_len,
@@ -216,6 +236,26 @@ uint8_t norbelath_row_text(const uint64_t *row, size_t row_len,
 uint8_t norbelath_row_pair(const uint64_t *row, size_t row_len,
                            const uint64_t *other, size_t other_len,
                            uint64_t *first, uint64_t *second);
+
+/*
+ * Index add call: adds the one tree, a rooted one, of a text to the index in `memory`. It gets the smallest number that
+ * no held tree has. Refused are, in this order, too short a memory, too long a text, memory that is that of no set of
+ * held trees, a text as in the form call, any tree while 160 are held, an unrooted one, and labels other than those of
+ * the held trees.
+ */
+uint8_t norbelath_index_add(uint8_t *memory, size_t memory_len,
+                            const uint8_t *text, size_t text_len,
+                            uint64_t *first, uint64_t *second);
+
+/*
+ * Index neighbours call: the numbers of the held trees that are one move apart from the tree with this number, ascending
+ * and each once. They are the ones that the graph choosing call, with copies kept apart, pairs it with, given the same
+ * trees in order of number. Refused are, in this order, too short a memory or list, memory that is that of no set of held
+ * trees, and a number that no held tree has.
+ */
+uint8_t norbelath_index_neighbours(const uint8_t *memory, size_t memory_len, size_t number,
+                                   uint16_t *list, size_t list_len,
+                                   uint64_t *first, uint64_t *second);
 
 /*
  * Sheet call: what the pair lister prints for a text. A text that is refused has its sheet too, the line `refused N at P`:

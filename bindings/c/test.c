@@ -411,6 +411,113 @@ static void rows(const char *text, const char *form, const uint64_t *expected, s
     }
 }
 
+/* Where parts of an index stand in its memory. */
+enum { SLOT = 127, ENTRIES_AT = 20320 };
+
+/* The memory of an index and a list, each with more than is asked for, and the memory before a call. */
+static uint8_t index_memory[NORBELATH_INDEX_BYTES + 100];
+static uint8_t memory_before[sizeof index_memory];
+static uint16_t index_list[NORBELATH_INDEX_LIST + 1];
+
+/* The bytes that stand where this is used, and how many they are; or none. */
+#define BYTES(...) (const uint8_t[]){__VA_ARGS__}, sizeof((const uint8_t[]){__VA_ARGS__})
+#define NO_BYTES (const uint8_t[]){0}, 0
+
+/* Writes an index: from a number on slots that begin with so many bytes each, and the entries. */
+static void write_index(uint8_t *to, size_t number, size_t width, const uint8_t *slots, size_t slots_len,
+                        const uint8_t *entries, size_t entries_len)
+{
+    memset(to, 0, NORBELATH_INDEX_BYTES);
+    for (size_t at = 0; at < slots_len; at += width) {
+        memcpy(to + SLOT * number++, slots + at, width);
+    }
+    memcpy(to + ENTRIES_AT, entries, entries_len);
+}
+
+/* The empty index, with something behind it that is no part of it. */
+static void clear_index(void)
+{
+    memset(index_memory, 0, NORBELATH_INDEX_BYTES);
+    memset(index_memory + NORBELATH_INDEX_BYTES, UNTOUCHED, sizeof index_memory - NORBELATH_INDEX_BYTES);
+}
+
+static void index_is(const char *what, size_t number, size_t width, const uint8_t *slots, size_t slots_len,
+                     const uint8_t *entries, size_t entries_len)
+{
+    static uint8_t expected[NORBELATH_INDEX_BYTES];
+    write_index(expected, number, width, slots, slots_len, entries, entries_len);
+    check(memcmp(index_memory, expected, sizeof expected) == 0, "index", what, "other bytes were expected");
+}
+
+static struct reply call_index_add(const char *text, size_t text_len, size_t memory_len)
+{
+    struct reply r = {99, 99, 99};
+    memcpy(memory_before, index_memory, sizeof index_memory);
+    r.result = norbelath_index_add(index_memory, memory_len, (const uint8_t *)text, text_len, &r.first, &r.second);
+    check(untouched(index_memory, NORBELATH_INDEX_BYTES, sizeof index_memory), "index add", text,
+          "the memory was changed behind the index");
+    return r;
+}
+
+static void add_in(size_t memory_len, const char *text, uint64_t number)
+{
+    struct reply r = call_index_add(text, strlen(text), memory_len);
+    check(same(r, NORBELATH_ACCEPTED, number, 0), "index add", text, "another number was expected");
+}
+
+static void add(const char *text, uint64_t number)
+{
+    add_in(NORBELATH_INDEX_BYTES, text, number);
+}
+
+static void add_refused(const char *text, size_t text_len, size_t memory_len, uint8_t number, uint64_t place)
+{
+    struct reply r = call_index_add(text, text_len, memory_len);
+    check(same(r, number, 0, place), "index add", text, "another refusal was expected");
+    check(memcmp(index_memory, memory_before, sizeof index_memory) == 0, "index add", text,
+          "a refusal changed the memory");
+}
+
+static struct reply call_index_neighbours(const char *what, size_t memory_len, size_t number, size_t list_len)
+{
+    struct reply r = {99, 99, 99};
+    memset(index_list, UNTOUCHED, sizeof index_list);
+    memcpy(memory_before, index_memory, sizeof index_memory);
+    r.result = norbelath_index_neighbours(index_memory, memory_len, number, index_list, list_len, &r.first, &r.second);
+    check(memcmp(index_memory, memory_before, sizeof index_memory) == 0, "index neighbours", what,
+          "the memory was changed");
+    return r;
+}
+
+/* These are the neighbours, with so much more lent than is asked for. */
+static void neighbours_in(size_t extra, const char *what, size_t number, const uint16_t *expected, size_t numbers)
+{
+    struct reply r = call_index_neighbours(what, NORBELATH_INDEX_BYTES + extra, number, NORBELATH_INDEX_LIST + extra);
+    const size_t written = numbers * sizeof expected[0];
+    check(same(r, NORBELATH_ACCEPTED, numbers, 0), "index neighbours", what, "another answer was expected");
+    check(memcmp(index_list, expected, written) == 0, "index neighbours", what, "another list was expected");
+    check(untouched(index_list, written, sizeof index_list), "index neighbours", what,
+          "the slice was changed behind the list");
+}
+
+static void neighbours(const char *what, size_t number, const uint16_t *expected, size_t numbers)
+{
+    neighbours_in(0, what, number, expected, numbers);
+    neighbours_in(1, what, number, expected, numbers);
+}
+
+static void neighbours_refused(const char *what, size_t memory_len, size_t number, size_t list_len, uint8_t refusal)
+{
+    struct reply r = call_index_neighbours(what, memory_len, number, list_len);
+    check(same(r, refusal, 0, 0), "index neighbours", what, "another refusal was expected");
+    check(untouched(index_list, 0, sizeof index_list), "index neighbours", what, "a refusal changed the list");
+}
+
+static void not_held(const char *what, size_t number)
+{
+    neighbours_refused(what, NORBELATH_INDEX_BYTES, number, NORBELATH_INDEX_LIST, NORBELATH_NOT_HELD);
+}
+
 /* One byte more than the sheet call asks for. */
 static uint8_t printed[NORBELATH_SHEET_OUT + 1];
 
@@ -1141,6 +1248,394 @@ static void row_pairs(void)
     row_pair("row 0 is none, and has other labels", LIST(6), LIST(1), NORBELATH_NO_ROW, 0);
 }
 
+/* The neighbours that stand where this is used, and how many they are; or none. */
+#define NEIGHBOURS(...) (const uint16_t[]){__VA_ARGS__}, sizeof((const uint16_t[]){__VA_ARGS__}) / sizeof(uint16_t)
+#define NO_NEIGHBOURS (const uint16_t[]){0}, 0
+
+/* No tree is held, and a tree of any labels may be the first. */
+static void empty_index(void)
+{
+    const size_t numbers[] = {0, 1, 159, 160, 255, 256, (size_t)1 << 32, SIZE_MAX};
+    clear_index();
+    for (size_t i = 0; i < sizeof numbers / sizeof numbers[0]; i++) {
+        not_held("the empty index", numbers[i]);
+    }
+    add(" [&R] 64 ;", 0);
+    clear_index();
+    add("(7,(9,8));", 0);
+}
+
+/* A leaf has no cuts. Of (1,2) the texts are 2 1; and 1 2;, so that the second cut stands first. */
+static void smallest_indices(void)
+{
+    clear_index();
+    add(" 07 ;", 0);
+    add("7;", 1);
+    index_is("leaves", 0, 1, BYTES(7, 7), NO_BYTES);
+    neighbours("leaves", 0, NO_NEIGHBOURS);
+    neighbours("leaves", 1, NO_NEIGHBOURS);
+    not_held("leaves", 2);
+
+    clear_index();
+    add("(2,1);", 0);
+    index_is("two leaves", 0, 3, BYTES(66, 1, 2), BYTES(0, 1, 0, 0));
+    add("(1,2);", 1);
+    index_is("two leaves twice", 0, 3, BYTES(66, 1, 2, 66, 1, 2), BYTES(0, 1, 1, 1, 0, 0, 1, 0));
+    neighbours("two leaves twice", 0, NO_NEIGHBOURS);
+}
+
+/* The index of ((1,2),3), ((1,3),2) and a copy of the first, and its entries with their texts. */
+static const uint8_t three_slots[] = {67, 66, 1, 2, 3, 67, 66, 1, 3, 2, 67, 66, 1, 2, 3};
+static const uint8_t three_entries[] = {
+    0, 3, 1, 2, 2, 3, /* (1,2) 3; */
+    0, 2, 1, 3, 2, 2, /* (1,3) 2; */
+    0, 1, 1, 1, 2, 1, /* (2,3) 1; */
+    1, 0,             /* 2 (1,3); */
+    0, 0, 2, 0,       /* 3 (1,2); */
+};
+
+static void write_three(void)
+{
+    write_index(index_memory, 0, 5, three_slots, sizeof three_slots, three_entries, sizeof three_entries);
+}
+
+static void is_three(const char *what)
+{
+    index_is(what, 0, 5, three_slots, sizeof three_slots, three_entries, sizeof three_entries);
+}
+
+/* Numbers in order of arrival, copies apart; the same bytes, however much is lent and whatever lies behind. */
+static void small_index(void)
+{
+    const size_t lent[] = {NORBELATH_INDEX_BYTES, NORBELATH_INDEX_BYTES + 1, sizeof index_memory};
+    for (size_t i = 0; i < sizeof lent / sizeof lent[0]; i++) {
+        clear_index();
+        add_in(lent[i], "((1,2),3);", 0);
+        index_is("one tree", 0, 5, BYTES(67, 66, 1, 2, 3), BYTES(0, 3, 0, 2, 0, 1, 0, 0));
+        neighbours("one tree", 0, NO_NEIGHBOURS);
+        add_in(lent[i], "(2,(3,1));", 1);
+        index_is("two trees", 0, 5, BYTES(67, 66, 1, 2, 3, 67, 66, 1, 3, 2),
+                 BYTES(0, 3, 1, 2, 0, 2, 1, 3, 0, 1, 1, 1, 1, 0, 0, 0));
+        neighbours("two trees", 0, NEIGHBOURS(1));
+        neighbours("two trees", 1, NEIGHBOURS(0));
+        add_in(lent[i], "[&R] (3,(2,1)) ;", 2);
+        is_three("three trees");
+        neighbours("three trees", 0, NEIGHBOURS(1));
+        neighbours("three trees", 1, NEIGHBOURS(0, 2));
+        neighbours("three trees", 2, NEIGHBOURS(1));
+    }
+}
+
+/* 10 stands behind 2 in a tree, and before it in the order (1,10) 2; (1,2) 10; (2,10) 1; 1 (2,10); 10 (1,2); */
+static void labels_of_two_digits(void)
+{
+    clear_index();
+    add("(10,(2,1));", 0);
+    add("(1,(10,2));", 1);
+    index_is("10 and 2", 0, 5, BYTES(67, 66, 1, 2, 10, 67, 1, 66, 2, 10),
+             BYTES(0, 2, 1, 2, 0, 3, 1, 3, 0, 1, 1, 0, 1, 1, 0, 0));
+    neighbours("10 and 2", 0, NEIGHBOURS(1));
+}
+
+/* Of four leaves: the second is one move from the others, of which the last is a copy of the first. */
+static void lists_of_an_index(void)
+{
+    clear_index();
+    add("(((1,2),3),4);", 0);
+    add("((1,2),(3,4));", 1);
+    add("(((3,4),1),2);", 2);
+    add("(4,(3,(2,1)));", 3);
+    neighbours("four leaves", 0, NEIGHBOURS(1));
+    neighbours("four leaves", 1, NEIGHBOURS(0, 2, 3));
+    neighbours("four leaves", 2, NEIGHBOURS(1));
+    neighbours("four leaves", 3, NEIGHBOURS(1));
+}
+
+/* Held trees may have any numbers: an addition takes the smallest free one. */
+static void index_with_gaps(void)
+{
+    clear_index();
+    write_index(index_memory, 1, 3, BYTES(66, 1, 2), BYTES(1, 1, 1, 0));
+    not_held("a gap", 0);
+    neighbours("a gap", 1, NO_NEIGHBOURS);
+    add("(1,2);", 0);
+    add("(1,2);", 2);
+    index_is("the gap filled", 0, 3, BYTES(66, 1, 2, 66, 1, 2, 66, 1, 2),
+             BYTES(0, 1, 1, 1, 2, 1, 0, 0, 1, 0, 2, 0));
+
+    write_index(index_memory, 159, 1, BYTES(64), NO_BYTES);
+    neighbours("the last number", 159, NO_NEIGHBOURS);
+    add("64;", 0);
+    add_refused("63;", 3, NORBELATH_INDEX_BYTES, NORBELATH_LABELS_DIFFER, 2);
+}
+
+/* Entry k, and the text that the cut call writes for it, with zeros behind. */
+struct entry {
+    uint8_t number, cut;
+    uint8_t text[NORBELATH_CUT_OUT];
+};
+
+static int read_entry(char (*trees)[LONGEST + 1], size_t number_of_trees, size_t k, struct entry *e)
+{
+    uint64_t first, second;
+    e->number = index_memory[ENTRIES_AT + 2 * k];
+    e->cut = index_memory[ENTRIES_AT + 2 * k + 1];
+    memset(e->text, 0, sizeof e->text);
+    return e->number < number_of_trees &&
+           norbelath_cut((const uint8_t *)trees[e->number], LONGEST, e->cut, e->text, sizeof e->text, &first,
+                         &second) == NORBELATH_ACCEPTED;
+}
+
+static int comes_before(const struct entry *e, const struct entry *other)
+{
+    const int order = memcmp(e->text, other->text, sizeof e->text);
+    return order < 0 ||
+           (order == 0 && (e->number < other->number || (e->number == other->number && e->cut < other->cut)));
+}
+
+/* Each entry is a cut of a tree and stands before the next. They are as many as there are cuts, so all are there. */
+static int entries_in_order(char (*trees)[LONGEST + 1], size_t number_of_trees)
+{
+    struct entry e, before;
+    for (size_t k = 0; k < 126 * number_of_trees; k++) {
+        if (!read_entry(trees, number_of_trees, k, &e) || (k > 0 && !comes_before(&before, &e))) {
+            return 0;
+        }
+        before = e;
+    }
+    return 1;
+}
+
+/* The deepest tree fills its slot: 63 forks, then 64 leaves. */
+static void deepest_in_index(void)
+{
+    static const uint8_t zeros[NORBELATH_INDEX_BYTES];
+    char deepest[1][LONGEST + 1];
+    uint8_t slot[SLOT];
+    strcpy(write_comb(deepest[0], 1, 1, 64), ";");
+    for (uint8_t i = 0; i < SLOT; i++) {
+        slot[i] = i < 63 ? 128 - i : i - 62;
+    }
+    clear_index();
+    add(deepest[0], 0);
+    check(memcmp(index_memory, slot, SLOT) == 0, "index", deepest[0], "another slot was expected");
+    check(memcmp(index_memory + SLOT, zeros, ENTRIES_AT - SLOT) == 0, "index", deepest[0], "another slot was changed");
+    check(entries_in_order(deepest, 1), "index", deepest[0], "other entries were expected");
+    check(memcmp(index_memory + ENTRIES_AT + 252, zeros, NORBELATH_INDEX_BYTES - ENTRIES_AT - 252) == 0, "index",
+          deepest[0], "zeros were expected behind the entries");
+    neighbours(deepest[0], 0, NO_NEIGHBOURS);
+}
+
+/* What the graph choosing call, which was just made, gives as neighbours of a position. */
+static size_t partners(uint16_t position, uint64_t number_of_pairs, uint16_t *list)
+{
+    size_t listed = 0;
+    for (size_t k = 0; k < number_of_pairs; k++) {
+        if (pairs[2 * k] == position) {
+            list[listed++] = pairs[2 * k + 1];
+        } else if (pairs[2 * k + 1] == position) {
+            list[listed++] = pairs[2 * k];
+        }
+    }
+    return listed;
+}
+
+/*
+ * 160 trees of 64 leaves: combs whose labels go round 1 to 64 from another start, by 1, by 3 and by 5. One move takes
+ * the deepest label to the root and makes the next of them. Then no tree fits, whatever its kind and labels are.
+ */
+static void full_index(void)
+{
+    static char trees[NORBELATH_MAX_TREES][LONGEST + 1], text[NORBELATH_MAX_TREES * LONGEST];
+    uint16_t expected[NORBELATH_MAX_TREES];
+    clear_index();
+    for (unsigned i = 0; i < NORBELATH_MAX_TREES; i++) {
+        strcpy(write_comb(trees[i], 1 + i % 64, 1 + 2 * (i / 64), 64), ";");
+        memcpy(text + i * LONGEST, trees[i], LONGEST);
+        add(trees[i], i);
+    }
+    check(entries_in_order(trees, NORBELATH_MAX_TREES), "index", "160 trees", "other entries were expected");
+    const struct lister keeping = {"graph choosing", call_keeping, KEPT_APART, 1, 0};
+    struct reply r = list(keeping, text, sizeof text, enough);
+    check(r.result == NORBELATH_ACCEPTED && r.second >= 150, keeping.name, "160 trees",
+          "150 pairs or more were expected");
+    for (uint16_t i = 0; i < NORBELATH_MAX_TREES; i += 3) {
+        neighbours_in(0, "160 trees", i, expected, partners(i, r.second, expected));
+    }
+    not_held("160 trees", 160);
+    not_held("160 trees", 256);
+    not_held("160 trees", SIZE_MAX);
+    add_refused("(1,2", 4, sizeof index_memory, NORBELATH_WRONG_BYTE, 4);
+    add_refused(trees[0], LONGEST - 1, NORBELATH_INDEX_BYTES, NORBELATH_WRONG_BYTE, LONGEST - 1);
+    add_refused(trees[0], LONGEST, NORBELATH_INDEX_BYTES, NORBELATH_TOO_MANY_TREES, 0);
+    add_refused("[&U](1,2,3);", 12, NORBELATH_INDEX_BYTES, NORBELATH_TOO_MANY_TREES, 0);
+    add_refused("  7 ;", 5, NORBELATH_INDEX_BYTES, NORBELATH_TOO_MANY_TREES, 0);
+    neighbours_refused("160 trees", NORBELATH_INDEX_BYTES - 1, 0, NORBELATH_INDEX_LIST, NORBELATH_SHORT_SLICE);
+}
+
+/* 160 copies of one tree are all held, and none is a neighbour of another. */
+static void index_of_copies(void)
+{
+    const char *copies[] = {"((1,2),3);", "(3,(2,1));"};
+    clear_index();
+    for (size_t i = 0; i < NORBELATH_MAX_TREES; i++) {
+        add(copies[i % 2], i);
+    }
+    for (size_t i = 0; i < NORBELATH_MAX_TREES; i += 53) {
+        neighbours("160 copies", i, NO_NEIGHBOURS);
+    }
+    /* The entries of the least text are those of the last leaf, in order of number. */
+    check(index_memory[ENTRIES_AT + 2 * 159] == 159 && index_memory[ENTRIES_AT + 2 * 159 + 1] == 3 &&
+              index_memory[ENTRIES_AT + 2 * 160] == 0 && index_memory[ENTRIES_AT + 2 * 160 + 1] == 2,
+          "index", "160 copies", "ties by number were expected");
+    add_refused("((1,2),3);", 10, NORBELATH_INDEX_BYTES, NORBELATH_TOO_MANY_TREES, 0);
+}
+
+/* A text is refused as in the form call, and only then an unrooted tree, and then other labels. */
+static void refused_additions(void)
+{
+    const size_t enough = NORBELATH_INDEX_BYTES;
+    static char blanks[NORBELATH_MAX_TEXT + 1];
+    char deeper[65];
+    clear_index();
+    add_refused("[&U]7;", 6, enough, NORBELATH_OTHER_KIND, 5);
+    add_refused("", 0, enough, NORBELATH_WRONG_BYTE, 0);
+    write_three();
+    add_refused("", 0, enough, NORBELATH_WRONG_BYTE, 0);
+    add_refused("((1,2),3)", 9, enough, NORBELATH_WRONG_BYTE, 9);
+    add_refused("((1,2),3);((1,2),3);", 20, enough, NORBELATH_WRONG_BYTE, 10);
+    add_refused("((1,2),65);", 11, enough, NORBELATH_BAD_LABEL, 7);
+    add_refused("((1,2),2);", 10, enough, NORBELATH_LABEL_AGAIN, 7);
+    memset(deeper, '(', sizeof deeper);
+    add_refused(deeper, 64, enough, NORBELATH_TOO_DEEP, 63);
+    add_refused("[&U](1,2,3) ;", 13, enough, NORBELATH_OTHER_KIND, 12);
+    add_refused("[&U](1,2,3);x", 13, enough, NORBELATH_WRONG_BYTE, 12);
+    add_refused("[&U]((1,2),3);", 14, enough, NORBELATH_WRONG_BYTE, 12);
+    add_refused("[&U](1,2,4);", 12, enough, NORBELATH_OTHER_KIND, 11);
+    add_refused("((1,2),4);", 10, enough, NORBELATH_LABELS_DIFFER, 9);
+    add_refused(" (1,2) ; ", 9, enough, NORBELATH_LABELS_DIFFER, 7);
+    add_refused("(((1,2),3),4);", 14, enough, NORBELATH_LABELS_DIFFER, 13);
+    add_refused("(1,2);x", 7, enough, NORBELATH_WRONG_BYTE, 6);
+    memset(blanks, ' ', sizeof blanks);
+    add_refused(blanks, NORBELATH_MAX_TEXT, enough, NORBELATH_WRONG_BYTE, NORBELATH_MAX_TEXT);
+    add_refused(blanks, sizeof blanks, enough, NORBELATH_LONG_TEXT, 0);
+    add_refused("((1,2),3);", 10, enough - 1, NORBELATH_SHORT_SLICE, 0);
+    add_refused("(1,2", 4, enough - 1, NORBELATH_SHORT_SLICE, 0);
+    add_refused(blanks, sizeof blanks, enough - 1, NORBELATH_SHORT_SLICE, 0);
+    add_refused("((1,2),3);", 10, 0, NORBELATH_SHORT_SLICE, 0);
+    is_three("after refusals");
+
+    /* Memory of no index goes behind the lengths and before all else in the text. */
+    index_memory[NORBELATH_INDEX_BYTES - 1] = 1;
+    add_refused("((1,2),3);", 10, enough - 1, NORBELATH_SHORT_SLICE, 0);
+    add_refused(blanks, sizeof blanks, enough, NORBELATH_LONG_TEXT, 0);
+    add_refused("(1,2", 4, enough, NORBELATH_NO_INDEX, 0);
+    add_refused("[&U](1,2);", 10, enough, NORBELATH_NO_INDEX, 0);
+    add_refused("((1,2),3);", 10, sizeof index_memory, NORBELATH_NO_INDEX, 0);
+}
+
+/* Too short a memory or list goes before memory of no index, and that before a number that is not held. */
+static void refused_questions(void)
+{
+    const size_t bytes = NORBELATH_INDEX_BYTES, numbers = NORBELATH_INDEX_LIST;
+    const size_t others[] = {3, 159, 160, 255, 256, 257, (size_t)1 << 16, (size_t)1 << 32, SIZE_MAX - 1, SIZE_MAX};
+    clear_index();
+    write_three();
+    for (size_t i = 0; i < sizeof others / sizeof others[0]; i++) {
+        not_held("three trees", others[i]);
+        neighbours_refused("three trees", bytes - 1, others[i], numbers, NORBELATH_SHORT_SLICE);
+        neighbours_refused("three trees", bytes, others[i], numbers - 1, NORBELATH_SHORT_SLICE);
+    }
+    neighbours_refused("three trees", bytes - 1, 1, numbers, NORBELATH_SHORT_SLICE);
+    neighbours_refused("three trees", bytes, 1, numbers - 1, NORBELATH_SHORT_SLICE);
+    neighbours_refused("three trees", 0, 1, 0, NORBELATH_SHORT_SLICE);
+
+    index_memory[SLOT - 1] = 1;
+    neighbours_refused("no index", bytes - 1, 1, numbers, NORBELATH_SHORT_SLICE);
+    neighbours_refused("no index", bytes, 1, numbers - 1, NORBELATH_SHORT_SLICE);
+    neighbours_refused("no index", bytes, 1, numbers, NORBELATH_NO_INDEX);
+    neighbours_refused("no index", sizeof index_memory, 160, numbers, NORBELATH_NO_INDEX);
+}
+
+static void is_no_index(const char *what)
+{
+    add_refused("((1,2),3);", 10, NORBELATH_INDEX_BYTES, NORBELATH_NO_INDEX, 0);
+    neighbours_refused(what, NORBELATH_INDEX_BYTES, 0, NORBELATH_INDEX_LIST, NORBELATH_NO_INDEX);
+}
+
+/* Each of these bytes changed alone. */
+static void damaged_bytes(size_t from, size_t to)
+{
+    const uint8_t changes[] = {1, 2, 64, 128, 255};
+    for (size_t at = from; at < to; at++) {
+        for (size_t i = 0; i < sizeof changes; i++) {
+            write_three();
+            index_memory[at] ^= changes[i];
+            is_no_index("a byte changed");
+        }
+    }
+}
+
+/* No byte may be another, no two entries may change places, and none may stand twice. */
+static void damaged_index(void)
+{
+    const size_t entries_end = ENTRIES_AT + sizeof three_entries;
+    clear_index();
+    damaged_bytes(0, 4 * SLOT + 1);
+    damaged_bytes(ENTRIES_AT - 1, entries_end + 4);
+    damaged_bytes(NORBELATH_INDEX_BYTES - 1, NORBELATH_INDEX_BYTES);
+    for (size_t at = ENTRIES_AT; at + 2 < entries_end; at += 2) {
+        write_three();
+        memcpy(index_memory + at, three_entries + at + 2 - ENTRIES_AT, 2);
+        is_no_index("an entry twice");
+        memcpy(index_memory + at + 2, three_entries + at - ENTRIES_AT, 2);
+        is_no_index("two entries in another order");
+    }
+    write_three();
+    neighbours("after damage", 1, NEIGHBOURS(0, 2));
+}
+
+/* A slot that is no tree's, with the entries of a tree of its leaves. */
+static void wrong_slot(const char *what, const uint8_t *slot, size_t slot_len, const uint8_t *entries,
+                       size_t entries_len)
+{
+    write_index(index_memory, 0, slot_len, slot, slot_len, entries, entries_len);
+    is_no_index(what);
+    write_index(index_memory, 0, slot_len, slot, slot_len, NO_BYTES);
+    is_no_index(what);
+}
+
+static void slots_that_are_no_trees(void)
+{
+    clear_index();
+    wrong_slot("a fork of one leaf", BYTES(65, 1), NO_BYTES);
+    wrong_slot("a fork without children", BYTES(66), BYTES(0, 1, 0, 0));
+    wrong_slot("a fork with one child", BYTES(66, 1), BYTES(0, 1, 0, 0));
+    wrong_slot("a label twice", BYTES(66, 1, 1), BYTES(0, 1, 0, 0));
+    wrong_slot("children in another order", BYTES(66, 2, 1), BYTES(0, 0, 0, 1));
+    wrong_slot("too many leaves", BYTES(67, 1, 2), BYTES(0, 1, 0, 0));
+    wrong_slot("too few leaves", BYTES(66, 66, 1, 2, 3), BYTES(0, 3, 0, 2, 0, 1, 0, 0));
+    wrong_slot("a leaf behind a leaf", BYTES(1, 2), NO_BYTES);
+    wrong_slot("a leaf behind a free byte", BYTES(0, 1), NO_BYTES);
+    wrong_slot("129", BYTES(129, 1, 2), BYTES(0, 1, 0, 0));
+    wrong_slot("the mark of 192", BYTES(192, 1, 2), BYTES(0, 1, 0, 0));
+
+    write_index(index_memory, 0, 1, BYTES(1, 2), NO_BYTES);
+    is_no_index("two label sets");
+    write_index(index_memory, 0, 3, BYTES(66, 1, 2, 3, 0, 0), BYTES(0, 1, 0, 0));
+    is_no_index("two label sets of different sizes");
+    write_index(index_memory, 1, 3, BYTES(66, 1, 2), BYTES(1, 1));
+    is_no_index("an entry less");
+    write_index(index_memory, 0, 3, BYTES(66, 1, 2), BYTES(0, 1, 0, 0, 0, 1));
+    is_no_index("an entry more");
+    write_index(index_memory, 0, 3, BYTES(66, 1, 2), BYTES(0, 1, 0, 2));
+    is_no_index("an entry of no cut");
+    write_index(index_memory, 0, 3, BYTES(66, 1, 2), BYTES(1, 1, 1, 0));
+    is_no_index("entries of a free number");
+    memset(index_memory, UNTOUCHED, sizeof index_memory);
+    is_no_index("bytes that are all the same");
+}
+
 /* What the pair lister prints, of a table and of a text that is refused; line 7 is the only refusal. */
 static void sheets(void)
 {
@@ -1293,6 +1788,19 @@ int main(void)
     refused_rows();
     slices_that_are_no_rows();
     row_pairs();
+    empty_index();
+    smallest_indices();
+    small_index();
+    labels_of_two_digits();
+    lists_of_an_index();
+    index_with_gaps();
+    deepest_in_index();
+    full_index();
+    index_of_copies();
+    refused_additions();
+    refused_questions();
+    damaged_index();
+    slots_that_are_no_trees();
     sheets();
     unrooted_sheets();
     limits();

@@ -1,7 +1,8 @@
 #!/usr/bin/env python3
 """Compare a pair lister with reference.py on generated cases.
 
-    compare.py PROGRAM [--interchanges | --graphs | --support | --rows | --islands] [--seed S] [--count N]
+    compare.py PROGRAM [--interchanges | --graphs | --support | --rows | --index | --islands]
+               [--seed S] [--count N]
 
 PROGRAM is the path of an executable that reads a table of trees from standard
 input and writes the sheet to standard output; with --interchanges it is the
@@ -9,23 +10,25 @@ program of interchanges.c, and the sheet is that of the interchange call; with
 --graphs that of graphs.c, and the sheet is that of both graph calls; with
 --support that of supports.c, and the sheet is that of the support call; with
 --rows that of rows.c, which makes many calls in one run, and the sheet has a line
-for each; with --islands it is the program of islands, and the sheet has a line
-for each.  It is run once for each case of generate.py, or with --rows of
-generate_rows.py, and its output must be the reference's sheet, byte for byte.  A
-program that is ended by a signal, or runs longer than the time limit for one
-case, counts as a mismatch.  Its exit status and standard error are shown with a
-mismatch but not judged, since document 01 says nothing about them.  Only where
-the sheet is empty, which that of islands is for a table without trees, the status
-has to be 0 and standard error empty too: a program that could not read its input
-leaves its output empty as well.
+for each; with --index that of index.c, which does so on one memory, and the sheet
+is that of index.py; with --islands it is the program of islands, and the sheet has
+a line for each.  It is run once for each case of generate.py, or with --rows of
+generate_rows.py, or with --index of generate_index.py, and its output must be the
+reference's sheet, byte for byte.  A program that is ended by a signal, or runs
+longer than the time limit for one case, counts as a mismatch.  Its exit status and
+standard error are shown with a mismatch but not judged, since document 01 says
+nothing about them.  Only where the sheet is empty, which that of islands is for a
+table without trees, the status has to be 0 and standard error empty too: a program
+that could not read its input leaves its output empty as well.
 
 The exit status is 1 if there was a mismatch, or if one of the refusal numbers
-1, 2, 3, 4, 5, 6, 8 and 10, with --rows 1, 2, 3, 4, 5, 8, 10 and 11, never came
-up, or if there were too few tables, or calls, of a sort that the program can go
-wrong on, so that the comparison says less than it seems to; otherwise 0.  A case
-can be looked at again by writing the same cases to files: `generate.py S N
-OUTDIR`, with --rooted for the program of interchanges and with --support for that
-of support; `generate_rows.py S N OUTDIR` for that of rows.
+1, 2, 3, 4, 5, 6, 8 and 10, with --rows 1, 2, 3, 4, 5, 8, 10 and 11, with --index
+1 to 8, 10, 12 and 13, never came up, or if there were too few tables, or calls, of
+a sort that the program can go wrong on, so that the comparison says less than it
+seems to; otherwise 0.  A case can be looked at again by writing the same cases to
+files: `generate.py S N OUTDIR`, with --rooted for the program of interchanges and
+with --support for that of support; `generate_rows.py S N OUTDIR` for that of rows,
+`generate_index.py S N OUTDIR` for that of the index.
 """
 
 import argparse
@@ -37,12 +40,16 @@ import sys
 from typing import Callable, NamedTuple
 
 import generate
+import generate_index
 import generate_rows
+import index
+import index_sorts
 import reference
 
 DEFAULT_COUNT = 5000
 REFUSALS_OF_THE_LISTER = (1, 2, 3, 4, 5, 6, 8, 10)
 REFUSALS_OF_ROWS = (1, 2, 3, 4, 5, 8, 10, 11)
+REFUSALS_OF_THE_INDEX = (1, 2, 3, 4, 5, 6, 7, 8, 10, 12, 13)
 MISMATCHES_SHOWN = 5
 BYTES_SHOWN = 700
 SECONDS_PER_CASE = 60
@@ -458,6 +465,8 @@ def compare(program, subject, seed, count):
 
 ROWS = Subject(reference.rows_sheet, generate_rows.cases, row_sorts, ROW_FLOORS, REFUSALS_OF_ROWS, refusals_of_lines,
                reference.row_calls)
+INDEX = Subject(index.index_sheet, generate_index.cases, index_sorts.index_sorts, index_sorts.INDEX_FLOORS,
+                REFUSALS_OF_THE_INDEX, refusals_of_lines, index.index_calls)
 
 
 def main(arguments):
@@ -475,6 +484,8 @@ def main(arguments):
                         help="the program is that of supports.c")
     others.add_argument("--rows", action="store_const", dest="subject", const=ROWS,
                         help="the program is that of rows.c")
+    others.add_argument("--index", action="store_const", dest="subject", const=INDEX,
+                        help="the program is that of index.c")
     others.add_argument("--islands", action="store_const", dest="subject",
                         const=both_kinds(reference.island_sheet), help="the program is that of islands")
     parser.set_defaults(subject=both_kinds(reference.sheet))

@@ -10,7 +10,8 @@
 //! of the table. Islands are found by uniting sets along the listed pairs. For
 //! clade support the label sets of all forks are counted in a hash map. Rows, the
 //! clades of a tree as numbers, are compared without texts: the clades of a forest
-//! are worked out from those of its tree.
+//! are worked out from those of its tree. An index keeps the forest texts of its
+//! trees in a sorted vector, and looks up those of the tree that it is asked for.
 //!
 //! Copies are trees of one topology. Merged, only the first of them stands in
 //! pairs; kept apart, each of them does. They are never a pair with each other.
@@ -19,6 +20,7 @@
 //! slice too short) does not arise.
 
 mod clades;
+mod index;
 mod reader;
 mod rooted;
 mod rows;
@@ -26,10 +28,14 @@ mod tree;
 mod unrooted;
 
 #[cfg(test)]
+mod index_tests;
+#[cfg(test)]
 mod tests;
 
 use std::collections::{BTreeMap, HashMap, HashSet};
 use std::io::Write;
+
+pub use index::{Index, INDEX_BYTES};
 
 use reader::Reader;
 use rooted::Rooted;
@@ -65,6 +71,10 @@ pub const NO_SUCH_CUT: u8 = 9;
 pub const OTHER_KIND: u8 = 10;
 /// The numbers are the row of no tree.
 pub const NO_ROW: u8 = 11;
+/// The memory is that of no index.
+pub const NO_INDEX: u8 = 12;
+/// No held tree has this number.
+pub const NOT_HELD: u8 = 13;
 
 /// Why a call refuses: the number, which text or row (0, or 1 for a pair's
 /// second) and the place.
@@ -238,6 +248,20 @@ fn refused_row(number: u8, which: u8) -> Refusal {
     }
 }
 
+/// Adds the tree of a text to the index that has this memory. Gives the tree's
+/// number and the memory with it.
+pub fn index_add(memory: &[u8], text: &[u8]) -> Result<(usize, Vec<u8>), Refusal> {
+    refuse_long_text(text, 0)?;
+    let mut index = Index::of_memory(memory)?;
+    let number = index.add(text)?;
+    Ok((number, index.memory()))
+}
+
+/// The neighbours of a tree of the index that has this memory.
+pub fn index_neighbours(memory: &[u8], number: usize) -> Result<Vec<u16>, Refusal> {
+    Index::of_memory(memory)?.neighbours(number)
+}
+
 /// The support of a table as text: the numbers of trees and clades, a line for
 /// each clade with its number in base 16 and how many trees have it, and the
 /// majority tree if there is one.
@@ -284,6 +308,61 @@ fn write_row_sheet(text: &[u8], out: &mut Vec<u8>) -> std::io::Result<()> {
         .collect();
     writeln!(out, "trees {} pairs {}", rows.len(), pairs.len())?;
     write_pairs(&pairs, out)
+}
+
+/// The index of a table of rooted trees, added one after another, as text: the
+/// numbers of trees and pairs, a line with the neighbours of each tree, and the
+/// memory, its bytes in base 16.
+pub fn index_sheet(text: &[u8]) -> Vec<u8> {
+    let mut out = Vec::new();
+    write_index_sheet(text, &mut out).expect("writing to a vector does not fail");
+    out
+}
+
+fn write_index_sheet(text: &[u8], out: &mut Vec<u8>) -> std::io::Result<()> {
+    let index = match index_of_table(text) {
+        Ok(index) => index,
+        Err(refusal) => return write_refusal(refusal, out),
+    };
+    let lists: Vec<Vec<u16>> = index
+        .numbers()
+        .filter_map(|number| index.neighbours(number).ok())
+        .collect();
+    let pairs = lists.iter().map(Vec::len).sum::<usize>() / 2;
+    writeln!(out, "trees {} pairs {pairs}", lists.len())?;
+    for (number, list) in index.numbers().zip(lists) {
+        write!(out, "tree {number} neighbours")?;
+        for neighbour in list {
+            write!(out, " {neighbour}")?;
+        }
+        writeln!(out)?;
+    }
+    write!(out, "memory ")?;
+    for byte in index.memory() {
+        write!(out, "{byte:02x}")?;
+    }
+    writeln!(out)
+}
+
+/// The index to which the trees of a table are added one after another.
+pub fn index_of_table(text: &[u8]) -> Result<Index, Refusal> {
+    let mut index = Index::default();
+    let mut start = 0;
+    for tree in each_tree(text) {
+        index.add(tree).map_err(|refusal| Refusal {
+            place: start + refusal.place,
+            ..refusal
+        })?;
+        start += tree.len();
+    }
+    Ok(index)
+}
+
+/// The parts of a text that end in `;`, each with one tree if the text has a
+/// table.
+pub fn each_tree(text: &[u8]) -> impl Iterator<Item = &[u8]> {
+    let parts = text.split_inclusive(|&byte| byte == b';');
+    parts.filter(|part| part.ends_with(b";"))
 }
 
 /// The rows of a table of rooted trees.

@@ -6,6 +6,7 @@ use std::ops::Range;
 use crate::tree::{add_label, fork_text, Joined, Part, Subtree};
 
 /// A rooted binary tree with its canonical text.
+#[derive(Clone)]
 pub struct Rooted {
     text: Vec<u8>,
     /// In the order in which the nodes begin in the text. The root is node 0,
@@ -14,6 +15,7 @@ pub struct Rooted {
     labels: u64,
 }
 
+#[derive(Clone)]
 struct Node {
     least: u8,
     /// Where the node stands in the canonical text.
@@ -142,6 +144,11 @@ impl Rooted {
 
     fn part(&self, node: usize) -> Part<'_> {
         (self.nodes[node].least, self.node_text(node))
+    }
+
+    /// The canonical text of each node, the root's first.
+    pub fn node_texts(&self) -> impl Iterator<Item = &[u8]> {
+        (0..self.nodes.len()).map(|node| self.node_text(node))
     }
 
     fn node_text(&self, node: usize) -> &[u8] {

@@ -838,16 +838,21 @@ fn every_small_row() {
     assert_eq!(lists.len(), 1 + 8 + 64 + 512 + 4096);
 }
 
-/// The pair test on rows beside that on texts, for all trees of five leaves.
-#[test]
-fn pairs_of_rows() {
+/// The rooted topologies of so many leaves, up to 9.
+pub fn rooted_topologies(leaves: usize) -> Vec<String> {
     // A leaf is not hung on the whole, so brackets stand around the root.
     let mut trees = vec![String::from("(1)")];
-    for label in 2..=5 {
+    for label in 2..=leaves {
         trees = trees.iter().flat_map(|x| with_a_leaf(x, label)).collect();
     }
     let inner = |tree: &String| format!("{};", &tree[1..tree.len() - 1]);
-    let texts: Vec<String> = trees.iter().map(inner).collect();
+    trees.iter().map(inner).collect()
+}
+
+/// The pair test on rows beside that on texts, for all trees of five leaves.
+#[test]
+fn pairs_of_rows() {
+    let texts = rooted_topologies(5);
     let mut yes = 0;
     for one in &texts {
         for other in &texts {

@@ -7,16 +7,19 @@
 //!
 //! A tree with the mark `[&U]` before it is unrooted, and has three children at the top, or two leaves, or one; a tree
 //! with the mark `[&R]` or none is rooted. Every other fork has two children. The trees of a call are of one kind.
-//! [`cut`], [`interchanges`], [`support`] and [`row`] take rooted trees only, the other calls either kind.
+//! [`cut`], [`interchanges`], [`support`], [`row`] and [`Index`] take rooted trees only, the other calls either kind.
 //!
 //! Trees of one topology are copies of each other, however they are written; two copies are never a pair. The first
 //! position of a topology is the smallest position whose tree has it. [`graph`] and [`islands`] merge copies: only
-//! first positions stand in pairs. [`graph_choosing`] can keep copies apart, and [`interchanges`] always does.
-//! [`support`] counts every copy.
+//! first positions stand in pairs. [`graph_choosing`] can keep copies apart, and [`interchanges`] and [`Index`] always
+//! do. [`support`] counts every copy.
 //!
 //! A rooted tree can also be held as its row of numbers: its label set, then its clades of two or more labels in
 //! ascending order, with bit L − 1 set for each label L. [`row`] and [`row_text`] turn texts into rows and back, and
 //! [`row_pair`] compares two rows.
+//!
+//! Rooted trees that arrive singly are added to an [`Index`], which gives each a number and lists the neighbours of any
+//! of them.
 //!
 //! ```
 //! assert_eq!(norbelath::form(b"(3,(2,1));").unwrap(), b"((1,2),3);");
@@ -44,6 +47,11 @@
 //! assert_eq!(row, [0b111, 0b110, 0b111]);
 //! assert_eq!(norbelath::row_text(&row).unwrap(), b"(1,(2,3));");
 //! assert_eq!(norbelath::row_pair(&row, &[0b111, 0b011, 0b111]), Ok(true));
+//! let mut index = norbelath::Index::new();
+//! assert_eq!(index.add(b"((1,2),3);"), Ok(0));
+//! assert_eq!(index.add(b"(1,(2,3));"), Ok(1));
+//! assert_eq!(index.add(b"(3,(2,1));"), Ok(2));
+//! assert_eq!(index.neighbours(1).unwrap(), [0, 2]);
 //! let table = norbelath::table(b"(2,1); (1,2);").unwrap();
 //! assert_eq!(table.trees().collect::<Vec<_>>(), [b"(1,2);", b"(1,2);"]);
 //! assert_eq!(norbelath::sheet(b"(1,2);"), b"trees 1 pairs 0\ntree 0 neighbours 0 unlinked 0 (1,2);\n");
@@ -54,6 +62,7 @@
 //! assert_eq!((refusal.number, refusal.place), (norbelath::Refusal::OTHER_KIND, 16));
 //! let refusal = norbelath::row_pair(&row, &[0b111, 0b011, 0b110]).unwrap_err();
 //! assert_eq!((refusal.number, refusal.text), (norbelath::Refusal::NO_ROW, 1));
+//! assert_eq!(index.neighbours(3).unwrap_err().number, norbelath::Refusal::NOT_HELD);
 //! ```
 
 use std::error::Error;
@@ -61,7 +70,7 @@ use std::fmt;
 
 /// Bytes of the longest text.
 pub const MAX_TEXT: usize = 65_535;
-/// Trees of the largest table.
+/// Trees of the largest table, and of a full index.
 pub const MAX_TREES: usize = 160;
 
 /// The least length of the slice lent to [`form_into`].
@@ -91,6 +100,10 @@ pub const SUPPORT_OUT: usize = 309;
 pub const ROW: usize = 64;
 /// The least length of the slice lent to [`row_text_into`].
 pub const ROW_TEXT_OUT: usize = 309;
+/// Bytes of an index, and the least length of the memory lent to [`index_add_into`] and [`index_neighbours_into`].
+pub const INDEX_BYTES: usize = 60_640;
+/// The least length of the slice lent to [`index_neighbours_into`] for the list.
+pub const INDEX_LIST: usize = 160;
 /// The least length of the slice lent to [`sheet_into`].
 pub const SHEET_OUT: usize = 221_542;
 
@@ -218,6 +231,23 @@ extern "C" {
         first: *mut u64,
         second: *mut u64,
     ) -> u8;
+    fn norbelath_index_add(
+        memory: *mut u8,
+        memory_len: usize,
+        text: *const u8,
+        text_len: usize,
+        first: *mut u64,
+        second: *mut u64,
+    ) -> u8;
+    fn norbelath_index_neighbours(
+        memory: *const u8,
+        memory_len: usize,
+        number: usize,
+        list: *mut u16,
+        list_len: usize,
+        first: *mut u64,
+        second: *mut u64,
+    ) -> u8;
     fn norbelath_sheet(
         text: *const u8,
         text_len: usize,
@@ -250,12 +280,12 @@ impl Copies {
 /// Why a call refuses. No lent slice is changed then.
 #[derive(Clone, Copy, Debug, PartialEq, Eq, Hash)]
 pub struct Refusal {
-    /// One of the numbers below, 1 to 11.
+    /// One of the numbers below, 1 to 13.
     pub number: u8,
     /// Which text or row: 0, or 1 for the other of a pair.
     pub text: u8,
-    /// The place in that text, counted from 0; its length where it ends too soon. 0 for 7, 8, 9 and 11, and where rows
-    /// are read.
+    /// The place in that text, counted from 0; its length where it ends too soon. 0 for 7, 8, 9, 11, 12 and 13, where
+    /// rows are read, and for 6 of an index.
     pub place: usize,
 }
 
@@ -268,9 +298,9 @@ impl Refusal {
     pub const LABEL_AGAIN: u8 = 3;
     /// A bracket that opens while 63 are open.
     pub const TOO_DEEP: u8 = 4;
-    /// Labels other than the first tree's; the place is the `;` of the tree that differs.
+    /// Labels other than the first or the held trees'; the place is the `;` of the tree that differs.
     pub const LABELS_DIFFER: u8 = 5;
-    /// Any byte but a blank after 160 trees.
+    /// Any byte but a blank after 160 trees; or a tree while an index holds 160.
     pub const TOO_MANY_TREES: u8 = 6;
     /// A lent slice that is too short.
     pub const SHORT_SLICE: u8 = 7;
@@ -282,6 +312,10 @@ impl Refusal {
     pub const OTHER_KIND: u8 = 10;
     /// Numbers that are the row of no tree; the place is 0.
     pub const NO_ROW: u8 = 11;
+    /// Memory that is that of no set of held trees; the place is 0.
+    pub const NO_INDEX: u8 = 12;
+    /// A number that no held tree has; the place is 0.
+    pub const NOT_HELD: u8 = 13;
 }
 
 impl fmt::Display for Refusal {
@@ -291,7 +325,7 @@ impl fmt::Display for Refusal {
             Refusal::BAD_LABEL => "a label that is not 1 to 64",
             Refusal::LABEL_AGAIN => "a label that is already in this tree",
             Refusal::TOO_DEEP => "a bracket that opens while 63 are open",
-            Refusal::LABELS_DIFFER => "labels other than the first tree's",
+            Refusal::LABELS_DIFFER => "labels other than the first or the held trees'",
             Refusal::TOO_MANY_TREES => "more than 160 trees",
             Refusal::SHORT_SLICE => "a lent slice that is too short",
             Refusal::LONG_TEXT => "a text above 65,535 bytes",
@@ -300,6 +334,8 @@ impl fmt::Display for Refusal {
                 "not of the first tree's kind, or unrooted where only rooted trees are taken"
             }
             Refusal::NO_ROW => "numbers that are the row of no tree",
+            Refusal::NO_INDEX => "memory that is that of no set of held trees",
+            Refusal::NOT_HELD => "a number that no held tree has",
             _ => "unknown",
         };
         write!(
@@ -386,6 +422,80 @@ pub struct Support {
     pub clades: Vec<(u64, u16)>,
     pub trees: usize,
     pub majority: Vec<u8>,
+}
+
+/// An index of rooted trees of one label set: up to 160 of them, each under a number, and which of them are neighbours.
+///
+/// It is [`INDEX_BYTES`] bytes, and one set of held trees has one memory. So two indices are equal exactly when they
+/// hold the same topologies under the same numbers, and [`as_bytes`](Index::as_bytes) and
+/// [`from_bytes`](Index::from_bytes) store one.
+///
+/// ```
+/// use norbelath::{Index, Refusal};
+///
+/// let mut index = Index::new();
+/// for tree in ["((1,2),3);", "((1,3),2);", "(3,(2,1));"] {
+///     let number = index.add(tree.as_bytes())?;
+///     println!("tree {number} has the neighbours {:?}", index.neighbours(number)?);
+/// }
+/// assert_eq!(index.neighbours(1)?, [0, 2]);
+/// assert_eq!(index.add(b"(1,2);").unwrap_err().number, Refusal::LABELS_DIFFER);
+/// let stored = index.as_bytes().to_vec();
+/// assert_eq!(Index::from_bytes(&stored), index);
+/// # Ok::<(), Refusal>(())
+/// ```
+#[derive(Clone, PartialEq, Eq)]
+pub struct Index {
+    memory: Vec<u8>,
+}
+
+impl Index {
+    /// The empty index.
+    pub fn new() -> Index {
+        Index {
+            memory: vec![0; INDEX_BYTES],
+        }
+    }
+
+    /// The index in these bytes, of which [`INDEX_BYTES`] are copied. They are not looked at: where they are too few,
+    /// or those of no set of held trees, each call refuses.
+    pub fn from_bytes(bytes: &[u8]) -> Index {
+        let copied = bytes.len().min(INDEX_BYTES);
+        Index {
+            memory: bytes[..copied].to_vec(),
+        }
+    }
+
+    /// The bytes of the index.
+    pub fn as_bytes(&self) -> &[u8] {
+        &self.memory
+    }
+
+    /// Adds a text's one tree, a rooted one, with the labels of those that are held. Gives its number, the smallest
+    /// that no held tree has.
+    pub fn add(&mut self, text: &[u8]) -> Result<usize, Refusal> {
+        index_add_into(&mut self.memory, text)
+    }
+
+    /// The numbers of the held trees that are one move apart from the tree with this number, ascending.
+    pub fn neighbours(&self, number: usize) -> Result<Vec<u16>, Refusal> {
+        let mut list = vec![0; INDEX_LIST];
+        let neighbours = index_neighbours_into(&self.memory, number, &mut list)?;
+        list.truncate(neighbours);
+        Ok(list)
+    }
+}
+
+impl Default for Index {
+    fn default() -> Index {
+        Index::new()
+    }
+}
+
+impl fmt::Debug for Index {
+    fn fmt(&self, f: &mut fmt::Formatter<'_>) -> fmt::Result {
+        f.debug_struct("Index").finish_non_exhaustive()
+    }
 }
 
 /// Makes a call that is lent two numbers, and reads its result: the two numbers of what is accepted, or the refusal.
@@ -658,6 +768,48 @@ pub fn row_pair(row: &[u64], other: &[u64]) -> Result<bool, Refusal> {
         )
     })?;
     Ok(yes == 1)
+}
+
+/// Adds a text's one tree, a rooted one, to the index in `memory`, of at least [`INDEX_BYTES`] bytes; zeros are the
+/// empty index. Gives the tree's number, the smallest that no held tree has.
+///
+/// Refused are, in this order, too short a memory, too long a text, memory that is that of no set of held trees, a text
+/// as by [`form`], any tree while 160 are held, an unrooted one, and labels other than those of the held trees. What
+/// lies behind [`INDEX_BYTES`] is neither read nor changed.
+pub fn index_add_into(memory: &mut [u8], text: &[u8]) -> Result<usize, Refusal> {
+    let (number, _) = answer(|first, second| unsafe {
+        norbelath_index_add(
+            memory.as_mut_ptr(),
+            memory.len(),
+            text.as_ptr(),
+            text.len(),
+            first,
+            second,
+        )
+    })?;
+    Ok(number)
+}
+
+/// Writes the numbers of the trees in an index that are one move apart from the tree with this number into `list`,
+/// ascending, of at least [`INDEX_LIST`] numbers. Gives how many they are. The index is in `memory`, as for
+/// [`index_add_into`].
+pub fn index_neighbours_into(
+    memory: &[u8],
+    number: usize,
+    list: &mut [u16],
+) -> Result<usize, Refusal> {
+    let (neighbours, _) = answer(|first, second| unsafe {
+        norbelath_index_neighbours(
+            memory.as_ptr(),
+            memory.len(),
+            number,
+            list.as_mut_ptr(),
+            list.len(),
+            first,
+            second,
+        )
+    })?;
+    Ok(neighbours)
 }
 
 /// Writes what the pair lister prints for a text into `out`, of at least [`SHEET_OUT`] bytes. Gives its length.

@@ -16,7 +16,8 @@ use Rattle.meaning.proofs.LabelBits.{Under}
 use Rattle.families.specs.Clades.{size, clades}
 use Rattle.families.specs.Support.{holders, supported, majority, chosen}
 use Rattle.families.proofs.Clades.{Fit, size-leaves, node-clades, clades-under, clades-size, clades-fit}
-use Rattle.families.proofs.Keep.{member-T, keep-iff, keep-nodup}
+use Rattle.meaning.proofs.Keep.{keep-iff, keep-nodup}
+use Rattle.families.proofs.Once.{member-T}
 use Rattle.families.proofs.Laminar.{Family}
 use Rattle.families.proofs.Support.{Occurs, EachGood, OneSet, holders-iff, supported-in, supported-nodup}
 

@@ -14,7 +14,8 @@ use Rattle.meaning.proofs.Labels.{some-leaves}
 use Rattle.meaning.proofs.Lists.{nodup-append}
 use Rattle.meaning.proofs.LabelBits.{Clear, Under}
 use Rattle.meaning.proofs.Clade.{children-clear, under-clade, clade-iff}
-use Rattle.families.specs.Clades.{size, clades, SameMembers}
+use Rattle.meaning.specs.Lists.{SameMembers}
+use Rattle.families.specs.Clades.{size, clades}
 use Rattle.families.proofs.Sizes.{size-add, size-pow, clear-sym, clear-parts, clear-differ, under-size}
 
 -- a subtree of a good tree is good

@@ -22,7 +22,8 @@ use Rattle.meaning.proofs.Canon.{least-in}
 use Rattle.meaning.proofs.Labels.{some-leaves}
 use Rattle.meaning.proofs.LabelBits.{Under, digit-le, digit-zero, under-le, under-iff, clear-iff, pow-has, lowest-in, lowest-le}
 use Rattle.meaning.proofs.Clade.{label-iff, lowest-least}
-use Rattle.families.specs.Clades.{size, clades, SameMembers}
+use Rattle.meaning.specs.Lists.{SameMembers}
+use Rattle.families.specs.Clades.{size, clades}
 use Rattle.families.specs.Grown.{firstChild, grow, Grows}
 use Rattle.families.specs.Majority.{Single, Tidy, mark}
 use Rattle.families.proofs.Sizes.{digit-sub, under-self, under-trans, clear-parts, label-64, rest-clear, rest-under, rest-sum, rest-size, size-le, size-none, size-pow, under-size}

@@ -3,12 +3,12 @@ pub mod Chosen
 pub mod Clades
 pub mod FirstChild
 pub mod Grown
-pub mod Keep
 pub mod LabelLists
 pub mod LabelOrder
 pub mod Laminar
 pub mod Majority
 pub mod MajorityText
+pub mod Once
 pub mod Prefix
 pub mod Reordered
 pub mod Row
@@ -19,7 +19,6 @@ pub mod RowSteps
 pub mod RowTest
 pub mod Samples
 pub mod Sizes
-pub mod Sorted
 pub mod Support
 pub mod SupportCall
 pub mod Tables

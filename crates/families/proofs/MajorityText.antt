@@ -13,7 +13,8 @@ use Rattle.meaning.specs.Clade.{clade}
 use Rattle.meaning.proofs.Lists.{in-member}
 use Rattle.meaning.proofs.Canon.{canon-good, canon-topology, canon-canonical, canonical-canon}
 use Rattle.meaning.proofs.Length.{form-length}
-use Rattle.families.specs.Clades.{clades, SameMembers}
+use Rattle.meaning.specs.Lists.{SameMembers}
+use Rattle.families.specs.Clades.{clades}
 use Rattle.families.specs.Support.{majority}
 use Rattle.families.specs.Majority.{Multi, join, drawn, Single, Tidy, writeMulti, mark, majorityTree, majorityText}
 use Rattle.families.proofs.Clades.{topology-iff-clades}

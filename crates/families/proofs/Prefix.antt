@@ -9,8 +9,8 @@ use native.Mathlib.Omega.{arith}
 use lib.Dec.{T}
 use lib.ListN.{length, take, getD}
 use Rattle.meaning.specs.Tree.{Tree}
-use Rattle.families.specs.Support.{holders, ranks, supported, majority, put, keep, chosen}
-use Rattle.families.proofs.Sorted.{Sorted}
+use Rattle.meaning.specs.Sorted.{put, keep, Sorted}
+use Rattle.families.specs.Support.{holders, ranks, supported, majority, chosen}
 use Rattle.families.proofs.Support.{EachGood, Ranked, ranks-iff, supported-sorted}
 use Rattle.families.proofs.Chosen.{majority-iff}
 

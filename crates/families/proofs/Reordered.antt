@@ -10,10 +10,11 @@ use Rattle.meaning.specs.Lists.{member, bit}
 use Rattle.meaning.specs.Tree.{Tree, Good, canon}
 use Rattle.meaning.proofs.Lists.{member-in, in-member}
 use Rattle.meaning.proofs.Canon.{canon-good, canon-topology}
-use Rattle.families.specs.Clades.{clades, SameMembers}
+use Rattle.meaning.specs.Lists.{SameMembers}
+use Rattle.families.specs.Clades.{clades}
 use Rattle.families.specs.Support.{holders, byLabels, ranks, supported, support}
 use Rattle.families.proofs.Clades.{topology-iff-clades}
-use Rattle.families.proofs.Sorted.{First, Sorted}
+use Rattle.meaning.specs.Sorted.{First, Sorted}
 use Rattle.families.proofs.Support.{EachGood, Occurs, supported-in, supported-sorted, supported-unique}
 
 -- the canonical tree has the same clades

@@ -16,13 +16,14 @@ use Rattle.meaning.proofs.Labels.{some-leaves}
 use Rattle.meaning.proofs.Length.{leaves-64}
 use Rattle.meaning.proofs.Text.{form-iff}
 use Rattle.meaning.proofs.Clade.{clade-fits}
-use Rattle.families.specs.Clades.{size, clades, SameMembers}
-use Rattle.families.specs.Sorted.{sortBy}
+use Rattle.meaning.specs.Lists.{SameMembers}
+use Rattle.families.specs.Clades.{size, clades}
+use Rattle.meaning.specs.Sorted.{sortBy, Sorted}
 use Rattle.families.specs.Grown.{firstChild, grow, Grows, GrowsTo}
 use Rattle.families.specs.Row.{row, isRow, rowTree}
 use Rattle.families.proofs.Sizes.{size-some}
 use Rattle.families.proofs.Clades.{node-good, size-leaves, node-clades, clades-iff, clades-length, clades-under, clades-size, clades-fit, clades-nodup, topology-iff-clades}
-use Rattle.families.proofs.Sorted.{Sorted, sort-in, sort-length, sort-sorted, sorted-nodup, sorted-same}
+use Rattle.meaning.proofs.Sorted.{sort-in, sort-length, sort-sorted, sorted-nodup, sorted-same}
 use Rattle.families.proofs.Grown.{grown-fork}
 use Rattle.families.proofs.Laminar.{Made, family-made, family-all}
 use Rattle.families.proofs.RowTest.{rising, RowOf, is-row-iff}

@@ -15,7 +15,7 @@ use Rattle.meaning.specs.Kind.{rooted}
 use Rattle.meaning.specs.Answer.{accepted, refusal}
 use Rattle.meaning.proofs.Samples.{near, far}
 use Rattle.families.specs.Clades.{size}
-use Rattle.families.specs.Sorted.{insert, sortBy}
+use Rattle.meaning.specs.Sorted.{insert, sortBy}
 use Rattle.families.specs.Grown.{leads, firstChild, grow}
 use Rattle.families.specs.Row.{row, risesFrom, allFit, isRow, rowTree}
 use Rattle.families.specs.RowCalls.{rowRead, rowCall, rowTextCall, rowsRead, RowPairCall, is-apart, not-apart}

@@ -18,7 +18,8 @@ use Rattle.families.specs.Clades.{size}
 use Rattle.families.specs.Row.{risesFrom, fits, allFit, partOf, isRow}
 use Rattle.families.proofs.Sizes.{under-self, clear-sym, size-some}
 use Rattle.families.proofs.Clades.{Fit, within, around, beside}
-use Rattle.families.proofs.Sorted.{Sorted, Strict, sorted-nodup}
+use Rattle.meaning.specs.Sorted.{Sorted}
+use Rattle.meaning.proofs.Sorted.{Strict, sorted-nodup}
 use Rattle.families.proofs.Laminar.{Family}
 
 -- ---- ascending numbers

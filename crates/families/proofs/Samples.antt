@@ -9,9 +9,9 @@ use Rattle.meaning.specs.Bytes.{bytes}
 use Rattle.meaning.specs.Lists.{member}
 use Rattle.meaning.specs.Tree.{Tree, leaf, fork}
 use Rattle.families.specs.Clades.{size, labelsFrom, labelsOf}
-use Rattle.families.specs.Sorted.{insert, sortBy}
+use Rattle.meaning.specs.Sorted.{insert, sortBy, lesser, put, keep}
 use Rattle.families.specs.Grown.{leads, firstChild, grow}
-use Rattle.families.specs.Support.{lesser, byLabels, ranks, pooled, put, once, supported, support, maxClades, majority, keep, regrouped}
+use Rattle.families.specs.Support.{byLabels, ranks, pooled, once, supported, support, maxClades, majority, regrouped}
 use Rattle.families.specs.Majority.{mark, majorityTree, majorityText}
 use Rattle.families.specs.SupportCall.{supportOf}
 

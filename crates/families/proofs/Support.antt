@@ -21,13 +21,16 @@ use Rattle.meaning.proofs.Sums.{count-append, no-longer}
 use Rattle.meaning.proofs.Length.{leaves-64}
 use Rattle.meaning.proofs.LabelBits.{under-le}
 use Rattle.meaning.proofs.Clade.{clade-fits}
-use Rattle.families.specs.Clades.{labelsOf, clades, SameMembers}
-use Rattle.families.specs.Sorted.{sortBy}
-use Rattle.families.specs.Support.{holders, byLabels, ranks, pooled, once, supported, maxClades, keep, regrouped}
-use Rattle.families.proofs.LabelLists.{then-iff, then-not, labels-of-inj, lesser-asym, lesser-trans, lesser-total}
+use Rattle.meaning.specs.Lists.{SameMembers}
+use Rattle.families.specs.Clades.{labelsOf, clades}
+use Rattle.meaning.specs.Sorted.{sortBy, keep, Sorted}
+use Rattle.families.specs.Support.{holders, byLabels, ranks, pooled, once, supported, maxClades, regrouped}
+use Rattle.meaning.proofs.Lesser.{then-iff, then-not, lesser-asym, lesser-trans, lesser-total}
+use Rattle.families.proofs.LabelLists.{labels-of-inj}
 use Rattle.families.proofs.Clades.{clades-length, clades-under, clades-nodup}
-use Rattle.families.proofs.Sorted.{Sorted, Strict, sort-in, sort-sorted, sorted-append, sorted-nodup, sorted-same}
-use Rattle.families.proofs.Keep.{keep-iff, keep-sorted, once-in, once-nodup}
+use Rattle.meaning.proofs.Sorted.{Strict, sort-in, sort-sorted, sorted-append, sorted-nodup, sorted-same}
+use Rattle.meaning.proofs.Keep.{keep-iff, keep-sorted}
+use Rattle.families.proofs.Once.{once-in, once-nodup}
 
 -- a clade of a tree of the table
 abbrev pub Occurs : ℕ → List Tree → Type 0

@@ -1,8 +1,7 @@
 -- The clades of a tree as 64-bit numbers, and the labels of such a number.
 -- Assumes nothing.
-use mathlib.Core.Logic.{_↔_}
 use mathlib.Core.Bool.{cond}
-use mathlib.Core.List.{List, [], _∷_, _++_, List·Memᴰ}
+use mathlib.Core.List.{List, [], _∷_, _++_}
 use Prim.Native.Nat.{ℕ, zero, suc, _+_, _/_, _%_}
 use lib.Dec.{eqb}
 use lib.Count.{onesIn}
@@ -28,7 +27,3 @@ labelsOf x = labelsFrom maxLabel 1 x
 abbrev pub clades : Tree → List ℕ
 clades (leaf n) = []
 clades (fork a b) = (clade a + clade b) ∷ (clades a ++ clades b)
-
--- the two lists have the same members
-abbrev pub SameMembers : List ℕ → List ℕ → Type 0
-SameMembers xs ys = (x : ℕ) → List·Memᴰ x xs ↔ List·Memᴰ x ys

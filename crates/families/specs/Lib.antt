@@ -4,6 +4,5 @@ pub mod Majority
 pub mod Row
 pub mod RowCalls
 pub mod RowRefusals
-pub mod Sorted
 pub mod Support
 pub mod SupportCall

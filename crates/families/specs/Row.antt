@@ -10,7 +10,7 @@ use Rattle.meaning.specs.Lists.{every}
 use Rattle.meaning.specs.Tree.{Tree, leaf}
 use Rattle.meaning.specs.Clade.{clade, inside, disjoint}
 use Rattle.families.specs.Clades.{size, clades}
-use Rattle.families.specs.Sorted.{sortBy}
+use Rattle.meaning.specs.Sorted.{sortBy}
 use Rattle.families.specs.Grown.{grow}
 
 -- the row of a tree

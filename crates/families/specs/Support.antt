@@ -1,28 +1,21 @@
 -- Clade support: in how many trees of a table each clade of two or more labels occurs, and in which order the clades are listed.
 -- Assumes nothing.
-use mathlib.Core.Bool.{Bool, true, false, not, _&&_, _||_}
+use mathlib.Core.Bool.{Bool, not, _&&_, _||_}
 use mathlib.Core.List.{List, [], _∷_, _++_, map}
 use Prim.Native.Nat.{ℕ, zero, suc, _+_, _-_, _*_}
 use lib.Dec.{ltb, eqb}
 use lib.ListN.{length}
 use Rattle.meaning.specs.Limits.{maxLabel, maxTrees}
 use Rattle.meaning.specs.Lists.{member, count}
+use Rattle.meaning.specs.Sorted.{lesser, sortBy, put, keep}
 use Rattle.meaning.specs.Tree.{Tree}
 use Rattle.families.specs.Clades.{labelsOf, clades}
-use Rattle.families.specs.Sorted.{sortBy}
 
 -- how many trees have the clade c, copies counted
 abbrev pub holders : List Tree → ℕ → ℕ
 holders ts c = count (λ t. member c (clades t)) ts
 
--- labels compared from the smallest on; a list that ends first is the lesser
-unfoldable pub lesser : List ℕ → List ℕ → Bool
-lesser [] [] = false
-lesser [] (y ∷ ys) = true
-lesser (x ∷ xs) [] = false
-lesser (x ∷ xs) (y ∷ ys) = ltb x y || (eqb x y && lesser xs ys)
-
--- c has the lesser labels
+-- c has the lesser labels, compared from the smallest on; a list that ends first is the lesser
 abbrev pub byLabels : ℕ → ℕ → Bool
 byLabels c d = lesser (labelsOf c) (labelsOf d)
 
@@ -34,11 +27,6 @@ ranks ts c d = ltb (holders ts d) (holders ts c) || (eqb (holders ts d) (holders
 unfoldable pub pooled : List Tree → List ℕ
 pooled [] = []
 pooled (t ∷ ts) = clades t ++ pooled ts
-
--- x in front of the list, where the test passes
-unfoldable pub put : Bool → ℕ → List ℕ → List ℕ
-put true x xs = x ∷ xs
-put false x xs = xs
 
 -- each member once
 unfoldable pub once : List ℕ → List ℕ
@@ -60,11 +48,6 @@ maxClades = maxTrees * (maxLabel - 2) + 1
 -- a clade of the majority tree: twice its number is above the number of trees
 unfoldable pub majority : List Tree → ℕ → Bool
 majority ts c = ltb (length ts) (2 * holders ts c)
-
--- the members that pass a test
-unfoldable pub keep : (ℕ → Bool) → List ℕ → List ℕ
-keep test [] = []
-keep test (x ∷ xs) = put (test x) x (keep test xs)
 
 -- the clades of two or more labels of the majority tree
 abbrev pub chosen : List Tree → List ℕ

@@ -56,7 +56,7 @@ module _ {A : Type 0} {P : A → Type 0} {Q : ℕ → ℕ → ℕ → Type 0} wh
   lent-tells true h t = t
   lent-tells false h t = denies h
 
-  limited-tells : (i : ℕ) (s : List ℕ) {a : Answer A} → Q 8 i 0 → Tells P Q a → Tells P Q (limited i s a)
+  pub limited-tells : (i : ℕ) (s : List ℕ) {a : Answer A} → Q 8 i 0 → Tells P Q a → Tells P Q (limited i s a)
   limited-tells i s {a} h t = cases (λ d. Tells P Q (cond d (refusal 8 i 0) a)) (ltb textBytes (length s)) (λ _. denies h) (λ _. t)
 
   answered-tells : (i : ℕ) (r : Read A) → ((x : A) (p : ℕ) → r ≡ got x p → P x) → ((n p : ℕ) → r ≡ refused n p → Q n i p) → Tells P Q (answered i r)
@@ -82,11 +82,11 @@ stands s (inl h) = omega arith
 stands s (inr h) = omega (arith, h .1)
 
 -- a refusal of the reader
-read-line : {lines : List ℕ} (s : List ℕ) {n p : ℕ} → Placed lines s n p → Line lines s n 0 p
+pub read-line : {lines : List ℕ} (s : List ℕ) {n p : ℕ} → Placed lines s n p → Line lines s n 0 p
 read-line s h = record { number = h .line; text = refl; place = stands s (h .stands) }
 
 -- among more lines
-more-lines : {A : Type 0} {P : A → Type 0} {lines lines′ s : List ℕ} {a : Answer A} → Among lines lines′ → Tells P (Line lines s) a → Tells P (Line lines′ s) a
+pub more-lines : {A : Type 0} {P : A → Type 0} {lines lines′ s : List ℕ} {a : Answer A} → Among lines lines′ → Tells P (Line lines s) a → Tells P (Line lines′ s) a
 more-lines t (accepts h) = accepts h
 more-lines t (denies h) = denies (record { number = among t (h .number); text = h .text; place = h .place })
 
@@ -95,7 +95,7 @@ abbrev pub OneTree : Takes → List ℕ → Kinded → Type 0
 OneTree takes s x = Good (x .tree) × OneText x s × Taken takes (x .kind)
 
 -- what reading the one tree of a text tells
-tree-tells : (takes : Takes) (s : List ℕ) → Tells (OneTree takes s) (Line (oneRefusals takes) s) (answered 0 (readTree takes s))
+pub tree-tells : (takes : Takes) (s : List ℕ) → Tells (OneTree takes s) (Line (oneRefusals takes) s) (answered 0 (readTree takes s))
 tree-tells takes s =
     answered-tells 0 (readTree takes s) (λ x p e. let (T, z) = read-iff takes x s .0 (p, e) in (read-good takes s x p e, T, z)) (λ n p e. read-line s (read-refused s takes n p e))
 

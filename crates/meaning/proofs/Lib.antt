@@ -16,10 +16,12 @@ pub mod Forests
 pub mod Interchange
 pub mod Interchanges
 pub mod Islands
+pub mod Keep
 pub mod LabelBits
 pub mod Labels
 pub mod Length
 pub mod Lent
+pub mod Lesser
 pub mod Lines
 pub mod Listing
 pub mod Lists
@@ -31,6 +33,7 @@ pub mod MergedIslands
 pub mod Moves
 pub mod Order
 pub mod Places
+pub mod Positions
 pub mod Reaches
 pub mod Respun
 pub mod Rootings
@@ -38,10 +41,11 @@ pub mod Round
 pub mod Same
 pub mod Samples
 pub mod Scan
+pub mod Sorted
 pub mod Sound
 pub mod Splits
-pub mod Stands
 pub mod Stable
+pub mod Stands
 pub mod Sums
 pub mod TableLines
 pub mod TableText

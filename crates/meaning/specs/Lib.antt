@@ -20,6 +20,7 @@ pub mod Reading
 pub mod Refusals
 pub mod Samples
 pub mod Sheet
+pub mod Sorted
 pub mod Tree
 pub mod Unrooted
 pub mod UnrootedDecide

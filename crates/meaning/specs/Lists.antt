@@ -1,5 +1,6 @@
 -- Definitions on lists and numbers that know nothing of trees and texts.
 -- Assumes nothing.
+use mathlib.Core.Logic.{_↔_}
 use mathlib.Core.Bool.{Bool, true, false, cond, not, _&&_, _||_}
 use mathlib.Core.List.{List, [], _∷_, _++_, List·Memᴰ}
 use Prim.Native.Nat.{ℕ, zero, suc, _+_}
@@ -33,12 +34,16 @@ unfoldable pub within : List ℕ → List ℕ → Bool
 within [] ys = true
 within (x ∷ xs) ys = member x ys && within xs ys
 
--- no number twice
-abbrev pub NoDup : List ℕ → Type 0
+-- nothing twice
+abbrev pub NoDup : {A : Type 0} → List A → Type 0
 NoDup [] = Unit {0}
 NoDup (x ∷ xs) = (List·Memᴰ x xs → ⊥) × NoDup xs
 
--- the test for that
+-- the two lists have the same members
+abbrev pub SameMembers : {A : Type 0} → List A → List A → Type 0
+SameMembers {A} xs ys = (x : A) → List·Memᴰ x xs ↔ List·Memᴰ x ys
+
+-- the test for no number twice
 abbrev pub noDup? : List ℕ → Bool
 noDup? [] = true
 noDup? (x ∷ xs) = not (any (eqb x) xs) && noDup? xs

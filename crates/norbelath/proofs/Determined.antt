@@ -9,6 +9,8 @@ use Rattle.meaning.specs.Copies.{Choice}
 use Rattle.meaning.specs.Calls.{PairCall, InterchangeCall, ChoosingCall, IslandsCall}
 use Rattle.meaning.specs.Sheet.{SheetCall}
 use Rattle.meaning.proofs.Determined.{pair-determined, lists-determined, islands-determined, sheet-call-determined}
+use Rattle.holdings.specs.IndexCalls.{AddCall, AskCall}
+use Rattle.holdings.proofs.IndexCalls.{add-determined, ask-determined}
 use Rattle.norbelath.specs.Coded.{coded, textValue, pairValue, tableValue, graphValue, textCoded, tableCoded, graphCoded, firstsCoded, islandsCoded}
 use Rattle.norbelath.specs.declared.Reply.{Reply}
 
@@ -68,6 +70,12 @@ module _ {r r′ x x′ y y′ : ℕ} where
 
   pub sheet-code-determined : {s out o o′ : List ℕ} → SheetCall s out (textCoded r x y o) → SheetCall s out (textCoded r′ x′ y′ o′) → (reply r x y ≡ reply r′ x′ y′) × (o ≡ o′)
   sheet-code-determined e f = text-code-determined (sheet-call-determined e f) refl
+
+  pub index-add-code-determined : {s memory m m′ : List ℕ} → AddCall s memory (textCoded r x y m) → AddCall s memory (textCoded r′ x′ y′ m′) → (reply r x y ≡ reply r′ x′ y′) × (m ≡ m′)
+  index-add-code-determined e f = text-code-determined (add-determined e f) refl
+
+  pub index-neighbours-code-determined : {n : ℕ} {memory list l l′ : List ℕ} → AskCall n memory list (textCoded r x y l) → AskCall n memory list (textCoded r′ x′ y′ l′) → (reply r x y ≡ reply r′ x′ y′) × (l ≡ l′)
+  index-neighbours-code-determined e f = text-code-determined (ask-determined e f) refl
 
   pub pair-code-determined : {s s′ : List ℕ} → PairCall s s′ (coded pairValue r x y) → PairCall s s′ (coded pairValue r′ x′ y′) → reply r x y ≡ reply r′ x′ y′
   pair-code-determined e f = sym (pair-back r x y) ∙ ap pairNumbers (pair-determined e f) ∙ pair-back r′ x′ y′

@@ -23,6 +23,8 @@ use Rattle.families.specs.RowCalls.{rowCall, rowTextCall, RowPairCall}
 use Rattle.families.proofs.SupportCall.{support-tells}
 use Rattle.families.proofs.RowCalls.{row-tells, row-text-tells}
 use Rattle.families.proofs.RowPair.{rows-tells, rows-line}
+use Rattle.holdings.specs.IndexCalls.{addTo, AddCall, adds, AskCall}
+use Rattle.holdings.proofs.IndexCalls.{add-tells, ask-tells}
 use Rattle.norbelath.specs.Coded.{Numbered}
 
 -- 0 is none of the lines
@@ -82,6 +84,13 @@ islands-numbered {s} {memory} (IslandsCall.refuses n i p e) = from-one tt (tells
 
 pub sheet-numbered : {s out : List ℕ} {o : Outcome ℕ (List ℕ)} → SheetCall s out o → Numbered (o .answer)
 sheet-numbered {out} (gives x h) = concluded out (λ y. textOf y out) (sheet-call-tells x out) (λ n i p l. from-one tt (l .number)) (λ y. tt)
+
+pub add-numbered : {s memory : List ℕ} {o : Outcome ℕ (List ℕ)} → AddCall s memory o → Numbered (o .answer)
+add-numbered {s} {memory} (adds a A) = concluded memory (addTo memory) (add-tells s memory a A) (λ n i p l. from-one tt (l .number)) (λ r. tt)
+
+pub ask-numbered : {x : ℕ} {memory list : List ℕ} {o : Outcome ℕ (List ℕ)} → AskCall x memory list o → Numbered (o .answer)
+ask-numbered (AskCall.lists hs ys a A e N) = tt
+ask-numbered {x} {memory} {list} (AskCall.refuses n i p a A e) = from-one tt (tells-refusal (ask-tells x memory list a A) e .number)
 
 -- the answer of an outcome that the definition gives
 pub numbered-as : {A M : Type 0} {o o′ : Outcome A M} → o ≡ o′ → Numbered (o′ .answer) → Numbered (o .answer)

@@ -2,6 +2,7 @@
 // the support call, three: `coded` and `supportValue` in specs/ say which answer they are, and include/norbelath.h says it to a
 // caller.
 pub mod clade_exports;
+pub mod index_exports;
 pub mod row_exports;
 
 use calls::PairAnswer;

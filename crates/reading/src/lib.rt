@@ -45,6 +45,10 @@ impl Refusal {
     pub const OTHER_KIND: u8 = 10;
 
     pub const NO_ROW: u8 = 11;
+
+    pub const NO_INDEX: u8 = 12;
+
+    pub const NO_SUCH_TREE: u8 = 13;
 }
 
 // Where reading goes on in the text and among the nodes, or why it ends.

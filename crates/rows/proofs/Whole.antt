@@ -21,11 +21,11 @@ use Rattle.held.specs.Kept.{KeepsKind}
 use Rattle.held.specs.declared.Kind.the-variants.{Rooted}
 use Rattle.held.proofs.Laws.{few-nodes}
 use Rattle.families.specs.Clades.{clades}
-use Rattle.families.specs.Sorted.{sortBy}
+use Rattle.meaning.specs.Sorted.{sortBy}
 use Rattle.families.specs.Grown.{GrowsTo}
 use Rattle.families.specs.Row.{row, isRow, rowTree}
 use Rattle.families.proofs.Clades.{clades-length}
-use Rattle.families.proofs.Sorted.{sort-length}
+use Rattle.meaning.proofs.Sorted.{sort-length}
 use Rattle.families.proofs.Row.{row-tree-good, row-tree-canonical, row-tree-grows, row-iff-topology}
 use Rattle.sorting.proofs.Runs.{slice-own, sets-over}
 use Rattle.rows.specs.Places.{Noted}

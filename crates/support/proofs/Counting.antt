@@ -14,9 +14,9 @@ use lib.Seq.{slice, slice-empty, slice-cons}
 use Rattle.meaning.specs.Lists.{count}
 use Rattle.lent.specs.Runs.{Wrote}
 use Rattle.lent.proofs.Runs.{wrote-one, wrote-more}
-use Rattle.families.specs.Clades.{SameMembers}
-use Rattle.families.specs.Support.{byLabels, put}
-use Rattle.families.proofs.Sorted.{Sorted}
+use Rattle.meaning.specs.Lists.{SameMembers}
+use Rattle.meaning.specs.Sorted.{put, Sorted}
+use Rattle.families.specs.Support.{byLabels}
 use Rattle.families.proofs.Support.{labels-strict}
 use Rattle.sorting.specs.Sort.{InOrder}
 use Rattle.support.specs.Counted.{firsts, sizesFrom, sizes, CountRoom, Counted, beside}

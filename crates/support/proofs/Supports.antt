@@ -17,7 +17,8 @@ use Rattle.lent.proofs.Runs.{wrote-length}
 use Rattle.held.specs.Kept.{KeepsAll}
 use Rattle.held.specs.declared.Table.{Table}
 use Rattle.families.specs.Clades.{clades}
-use Rattle.families.specs.Support.{pooled, put, supported, support}
+use Rattle.meaning.specs.Sorted.{put}
+use Rattle.families.specs.Support.{pooled, supported, support}
 use Rattle.families.proofs.Clades.{clades-length}
 use Rattle.families.proofs.Support.{EachGood}
 use Rattle.families.proofs.Reordered.{canon-each-good, supported-canon, support-canon}

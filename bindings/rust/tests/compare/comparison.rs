@@ -7,7 +7,7 @@ use norbelath::{SUPPORT_TREES, TABLE_ENDS, TABLE_TEXTS};
 
 use crate::generator::Random;
 
-const SHORT: Refusal = Refusal {
+pub const SHORT: Refusal = Refusal {
     number: Refusal::SHORT_SLICE,
     text: 0,
     place: 0,
@@ -33,7 +33,7 @@ const ISLAND_GRAPH: ListInto<4> = |text, [pairs, counts, firsts, islands]| {
     norbelath::islands_into(text, pairs, counts, firsts, islands)
 };
 
-fn refusal(x: plain::Refusal) -> Refusal {
+pub fn refusal(x: plain::Refusal) -> Refusal {
     Refusal {
         number: x.number,
         text: x.text,
@@ -55,13 +55,13 @@ fn flat(pairs: &[(u16, u16)]) -> Vec<u16> {
 }
 
 /// The start of a text, for messages.
-fn shown(text: &[u8]) -> String {
+pub fn shown(text: &[u8]) -> String {
     String::from_utf8_lossy(&text[..text.len().min(600)]).into_owned()
 }
 
 /// A lent slice that is filled with noise, and a copy of it.
-struct Lent<T> {
-    slice: Vec<T>,
+pub struct Lent<T> {
+    pub slice: Vec<T>,
     before: Vec<T>,
 }
 
@@ -72,7 +72,7 @@ fn slices<const N: usize>(lent: &mut [Lent<u16>; N]) -> [&mut [u16]; N] {
 }
 
 impl<T: Copy + PartialEq> Lent<T> {
-    fn new(random: &mut Random, len: usize, of: fn(u64) -> T) -> Lent<T> {
+    pub fn new(random: &mut Random, len: usize, of: fn(u64) -> T) -> Lent<T> {
         let (start, step) = (random.next(), random.next() | 1);
         let before: Vec<T> = (0..len as u64)
             .map(|i| of(start.wrapping_add(i.wrapping_mul(step))))
@@ -83,8 +83,17 @@ impl<T: Copy + PartialEq> Lent<T> {
         }
     }
 
+    /// The slice that begins with these elements, and has so many of noise behind them.
+    pub fn behind(random: &mut Random, start: &[T], len: usize, of: fn(u64) -> T) -> Lent<T> {
+        let before = [start, &Lent::new(random, len, of).before].concat();
+        Lent {
+            slice: before.clone(),
+            before,
+        }
+    }
+
     /// The slice begins with `written` and is unchanged behind it.
-    fn holds(&self, written: &[T]) -> bool {
+    pub fn holds(&self, written: &[T]) -> bool {
         let (start, rest) = self.slice.split_at(written.len());
         start == written && rest == &self.before[written.len()..]
     }
@@ -95,7 +104,7 @@ fn enough(random: &mut Random, least: usize) -> usize {
     least + random.pick(&[0, 0, 1, 13])
 }
 
-fn too_short(random: &mut Random, least: usize) -> usize {
+pub fn too_short(random: &mut Random, least: usize) -> usize {
     random.pick(&[0, 1, least / 2, least - 1])
 }
 
@@ -145,18 +154,18 @@ impl LentSupport {
 /// The comparisons of a test, and how many calls were accepted (at 0) and refused with each number.
 pub struct Comparison {
     pub random: Random,
-    answers: [usize; 12],
+    answers: [usize; 14],
 }
 
 impl Comparison {
     pub fn new(seed: u64) -> Comparison {
         Comparison {
             random: Random::new(seed),
-            answers: [0; 12],
+            answers: [0; 14],
         }
     }
 
-    fn count<T>(&mut self, answer: &Result<T, Refusal>) {
+    pub fn count<T>(&mut self, answer: &Result<T, Refusal>) {
         match answer {
             Ok(_) => self.answers[0] += 1,
             Err(x) => self.answers[x.number as usize] += 1,
@@ -166,7 +175,7 @@ impl Comparison {
     /// Ends a test: it met each of these refusals so many times or more; 0 stands for accepted.
     pub fn met(&self, test: &str, least: &[(usize, usize)]) {
         let (accepted, refused) = (self.answers[0], &self.answers[1..]);
-        println!("{test}: {accepted} accepted, refused 1 to 11: {refused:?}");
+        println!("{test}: {accepted} accepted, refused 1 to 13: {refused:?}");
         for &(number, times) in least {
             let met = self.answers[number];
             assert!(met >= times, "{number} was met {met} times only");
@@ -215,7 +224,7 @@ impl Comparison {
     }
 
     /// The same of any elements, which `of` makes of noise.
-    fn written<T: Copy + PartialEq>(
+    pub fn written<T: Copy + PartialEq>(
         &mut self,
         least: usize,
         of: fn(u64) -> T,

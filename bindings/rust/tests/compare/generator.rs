@@ -368,3 +368,72 @@ pub fn damage_row(random: &mut Random, row: &mut Vec<u64>) {
         }
     }
 }
+
+/// The bytes of a slot of an index, and where its entries begin.
+const SLOT: usize = 127;
+const ENTRIES_AT: usize = 160 * SLOT;
+
+/// How many entries the slots of an index say that it has.
+fn entries(memory: &[u8]) -> usize {
+    let forks = (0..160).filter_map(|x| memory[SLOT * x].checked_sub(64));
+    forks.map(|leaves| 2 * (leaves as usize).max(1) - 2).sum()
+}
+
+/// Takes the tree with this number out of an index, if it is held: clears its slot and closes the gaps.
+pub fn take_out(memory: &mut [u8], number: usize) {
+    let used = ENTRIES_AT + 2 * entries(memory);
+    let kept: Vec<u8> = memory[ENTRIES_AT..used]
+        .chunks_exact(2)
+        .filter(|entry| entry[0] as usize != number)
+        .flatten()
+        .copied()
+        .collect();
+    memory[SLOT * number..][..SLOT].fill(0);
+    memory[ENTRIES_AT..used].fill(0);
+    memory[ENTRIES_AT..][..kept.len()].copy_from_slice(&kept);
+}
+
+/// Damages an index in one place, at times in more. Some of it leaves an index, another or the same.
+pub fn damage_index(random: &mut Random, memory: &mut [u8]) {
+    for _ in 0..random.pick(&[1, 1, 1, 2]) {
+        let (slot, other) = (SLOT * random.below(10), SLOT * random.below(10));
+        let (node, any) = (slot + random.below(10), random.next() as u8);
+        let entries = entries(memory).max(2);
+        let entry = ENTRIES_AT + 2 * random.below(entries - 1);
+        let end = ENTRIES_AT + 2 * entries;
+        match random.below(14) {
+            0 => memory[random.below(memory.len())] ^= any,
+            1 => memory[node] ^= any,
+            2 => memory[node] = memory[node].wrapping_add(random.pick(&[1, 255])),
+            3 => memory.swap(node, node + 1),
+            4 => memory[slot..slot + SLOT].fill(0),
+            5 => memory.copy_within(slot..slot + SLOT, other),
+            6 => (0..SLOT).for_each(|i| memory.swap(slot + i, other + i)),
+            7 => memory[entry] = random.below(10) as u8,
+            8 => memory[entry + 1] = memory[entry + 1].wrapping_add(random.pick(&[1, 255])),
+            9 => memory[entry..entry + 4].rotate_left(2),
+            10 => memory.copy_within(entry..entry + 2, entry + 2),
+            11 => memory[entry..end].rotate_left(2),
+            12 => memory[end..][..2].copy_from_slice(&[any % 10, any]),
+            // One number for another, in its slot and its entries.
+            _ => {
+                let renamed = |byte: u8| exchanged(byte, (slot / SLOT) as u8, (other / SLOT) as u8);
+                (0..SLOT).for_each(|i| memory.swap(slot + i, other + i));
+                for at in (ENTRIES_AT..end).step_by(2) {
+                    memory[at] = renamed(memory[at]);
+                }
+            }
+        }
+    }
+}
+
+/// The one of two bytes for the other.
+fn exchanged(byte: u8, one: u8, other: u8) -> u8 {
+    if byte == one {
+        other
+    } else if byte == other {
+        one
+    } else {
+        byte
+    }
+}

@@ -2,6 +2,7 @@
 
 mod comparison;
 mod generator;
+mod index;
 
 use comparison::Comparison;
 use generator::{chains, damage, damage_row, labels, most_clades, Kind, Random, Tree};

@@ -1,0 +1,5 @@
+pub mod Found
+pub mod Listed
+pub mod Marking
+pub mod Searching
+pub mod Walk

@@ -1,0 +1,5 @@
+pub mod Agree
+pub mod EntryTexts
+pub mod Parting
+pub mod Passing
+pub mod Ranking

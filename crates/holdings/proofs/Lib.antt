@@ -1,0 +1,9 @@
+pub mod Bytes
+pub mod Entries
+pub mod EntryOrder
+pub mod HeldTrees
+pub mod IndexCalls
+pub mod IndexRefusals
+pub mod Memory
+pub mod NeighbourLists
+pub mod SlotBytes

@@ -1,0 +1,1 @@
+// The index of held trees: definitions in specs/, theorems in proofs/.

@@ -1,0 +1,38 @@
+-- `norbelath::index_exports::add_reply` meets its contract.
+-- Assumes nothing.
+use mathlib.Core.Path.{ap}
+use Rattle.index_calls.specs.Added.{addAnswer}
+use Rattle.norbelath.specs.Coded.{textValue}
+use Rattle.norbelath.proofs.Replies.{said-accepted, said-refused}
+use borrow.Author.Needs.{needs}
+use Rattle.norbelath.proofs.index_exports.add_reply.Statement.{statement}
+use Rattle.norbelath.proofs.index_exports.add_reply.Tie as tie
+
+enum-known-answer : tie.Need-enum-known-answer
+enum-known-answer c = search needs
+
+accepted-requires : tie.Need-accepted-requires
+accepted-requires c κs = search needs
+
+enum-known-answer-2 : tie.Need-enum-known-answer-2
+enum-known-answer-2 c = search needs
+
+refused-requires : tie.Need-refused-requires
+refused-requires c κs = search needs
+
+returns : tie.Need-returns
+returns c = said-accepted textValue (c .accepted .ensures) (ap addAnswer (c .before .before .answer .given .1))
+
+returns-2 : tie.Need-returns-2
+returns-2 c = said-refused textValue (c .refused .ensures) (ap addAnswer (c .before .before .answer2 .given .1)) (c .before .before .before .before .pre)
+
+pub add-reply-spec : {M : Type 1} → statement M
+add-reply-spec =
+    tie.close
+    (tie.spec
+    enum-known-answer
+    accepted-requires
+    enum-known-answer-2
+    refused-requires
+    returns
+    returns-2)

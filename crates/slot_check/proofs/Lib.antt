@@ -1,0 +1,3 @@
+pub mod InOrder
+pub mod Shelves
+pub mod Slots
