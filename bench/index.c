@@ -1,11 +1,11 @@
 /*
  * Adds the trees on standard input, one after another, to an index, and prints the numbers of trees and pairs, a line
- * with the neighbours of each tree and the memory in base 16; or the line of a refusal. That is what the plain program
- * prints with --index.
+ * with the neighbours of each tree, the memory in base 16 and, if there are trees, the memory without the first; or the
+ * line of a refusal. That is what the plain program prints with --index.
  * With --repeat N it goes N times over the calls and prints, in place of all but a refusal, the shortest times in
  * microseconds: of a question, the mean over all trees; of looking through the memory, told by a question for a number
- * that no tree has, which is refused; of adding the last tree to the others; of adding all trees from none on; and of
- * the graph choosing call on the same table, copies kept apart.
+ * that no tree has, which is refused; of adding the last tree to the others; of adding all trees from none on; of
+ * removing the first tree from all; and of the graph choosing call on the same table, copies kept apart.
  * If standard input cannot be read nothing is printed. Then, or if standard output cannot be written, the exit status
  * is 1.
  */
@@ -26,7 +26,7 @@ static size_t text_len;
 static size_t start[NORBELATH_MAX_TREES + 1];
 static size_t number_of_trees;
 
-/* The index that grows, that of all trees, and that of all but the last. */
+/* The index that is changed, that of all trees, and that of all but the last. */
 static uint8_t memory[NORBELATH_INDEX_BYTES], of_all[NORBELATH_INDEX_BYTES], of_all_but_one[NORBELATH_INDEX_BYTES];
 static uint16_t list[NORBELATH_INDEX_LIST];
 static uint16_t pairs[NORBELATH_GRAPH_PAIRS], counts[NORBELATH_GRAPH_COUNTS], firsts[NORBELATH_GRAPH_FIRSTS];
@@ -62,6 +62,20 @@ static uint64_t ask(size_t number)
     return first;
 }
 
+static uint8_t take_out(size_t number)
+{
+    return norbelath_index_remove(memory, sizeof memory, number, &first, &second);
+}
+
+static void print_memory(const char *name)
+{
+    printf("%s ", name);
+    for (size_t i = 0; i < sizeof memory; i++) {
+        printf("%02x", memory[i]);
+    }
+    putchar('\n');
+}
+
 static void print_index(void)
 {
     uint64_t listed = 0;
@@ -77,11 +91,10 @@ static void print_index(void)
         }
         putchar('\n');
     }
-    printf("memory ");
-    for (size_t i = 0; i < sizeof of_all; i++) {
-        printf("%02x", of_all[i]);
+    print_memory("memory");
+    if (take_out(0) == NORBELATH_ACCEPTED) {
+        print_memory("without 0");
     }
-    putchar('\n');
 }
 
 /* The rounds that are timed. */
@@ -108,6 +121,11 @@ static void add_all(void)
     for (size_t number = 0; number < number_of_trees; number++) {
         add(start[number], start[number + 1]);
     }
+}
+
+static void remove_first(void)
+{
+    take_out(0);
 }
 
 static void graph(void)
@@ -144,6 +162,7 @@ static void print_times(long rounds)
     printf(" %.3f", shortest_of(rounds, of_all, ask_for_none));
     printf(" %.3f", shortest_of(rounds, of_all_but_one, add_last));
     printf(" %.3f", shortest_of(rounds, empty, add_all));
+    printf(" %.3f", shortest_of(rounds, of_all, remove_first));
     printf(" %.3f\n", shortest_of(rounds, empty, graph));
 }
 

@@ -42,10 +42,11 @@ the programs print with --repeat.
 
 With --index OUR_PROGRAM is that of index.c, built in the same way if it is left
 out.  It and the plain one add the 160 trees of some full tables to an index, one
-after another, and their lists of neighbours and the bytes of their memories must
-be the same.  Times are taken as with --rows: of a question to the full index, of
-looking through its memory alone, of adding the last tree, of adding all of them,
-and, beside that, of the graph call on the same table.
+after another, then remove the first, and their lists of neighbours and the bytes
+of their memories must be the same.  Times are taken as with --rows: of a question
+to the full index, of looking through its memory alone, of adding the last tree, of
+adding all of them, of removing one, and, beside that, of the graph call on the
+same table.
 """
 
 import argparse
@@ -358,7 +359,7 @@ def measure_rows(commands, repeat, directory):
 
 
 # What the programs of --index measure, in this order.
-INDEX_TIMES = ("question", "check alone", "last addition", "all additions", "graph call")
+INDEX_TIMES = ("question", "check alone", "last addition", "all additions", "removal", "graph call")
 
 
 def measure_index(commands, repeat, directory):

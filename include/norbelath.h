@@ -1,11 +1,11 @@
 /*
  * Norbelath: binary trees, rooted or unrooted, as texts, and which of them are one prune and regraft apart.
  *
- * Fifteen calls over lent memory. They allocate nothing, keep nothing between calls but what an index in lent memory
- * holds, and may be called from several threads at once, while none adds to the same index. On x86-64 the row and index
- * calls use up to 20 KB of stack, the table call up to 120 KB, the support call up to 300 KB, the graph, interchange and
- * islands calls up to 360 KB, and the sheet call up to 440 KB. Any bytes may be given as a text or as an index: what is
- * not as it should be is refused, with the reason and the place.
+ * Sixteen calls over lent memory. They allocate nothing, keep nothing between calls but what an index in lent memory
+ * holds, and may be called from several threads at once, while none adds to the same index or removes from it. On x86-64
+ * the row and index calls use up to 20 KB of stack, the table call up to 120 KB, the support call up to 300 KB, the graph,
+ * interchange and islands calls up to 360 KB, and the sheet call up to 440 KB. Any bytes may be given as a text or as an
+ * index: what is not as it should be is refused, with the reason and the place.
  *
  * A text is a pointer and its length in bytes; it needs no byte 0 at its end. A lent slice is a pointer and its length in
  * elements. No pointer is NULL. The slices and numbers that a call may write overlap neither each other nor what it reads.
@@ -28,6 +28,7 @@
  *   index add       the tree's number            0
  *   index           neighbours                   0
  *   neighbours
+ *   index remove    0                            0
  *   refused         which text or row: 0, or 1   the place: an offset in that text,
  *                   for the other of a pair      its length where it ends too soon
  *
@@ -249,13 +250,22 @@ uint8_t norbelath_index_add(uint8_t *memory, size_t memory_len,
 
 /*
  * Index neighbours call: the numbers of the held trees that are one move apart from the tree with this number, ascending
- * and each once. They are the ones that the graph choosing call, with copies kept apart, pairs it with, given the same
- * trees in order of number. Refused are, in this order, too short a memory or list, memory that is that of no set of held
- * trees, and a number that no held tree has.
+ * and each once. They are the ones that the graph choosing call, with copies kept apart, pairs it with, given the held
+ * trees in order of number, where each position stands for the number at that place. Refused are, in this order, too short
+ * a memory or list, memory that is that of no set of held trees, and a number that no held tree has.
  */
 uint8_t norbelath_index_neighbours(const uint8_t *memory, size_t memory_len, size_t number,
                                    uint16_t *list, size_t list_len,
                                    uint64_t *first, uint64_t *second);
+
+/*
+ * Index remove call: takes the tree with this number out of the index in `memory`: its entries go, the gaps are closed,
+ * and its slot is zeros. The other trees keep their numbers, and this one is free again, so that the next tree may get it.
+ * An index that loses its last tree is the empty one, and takes any label set next. Refused are, in this order, too short
+ * a memory, memory that is that of no set of held trees, and a number that no held tree has.
+ */
+uint8_t norbelath_index_remove(uint8_t *memory, size_t memory_len, size_t number,
+                               uint64_t *first, uint64_t *second);
 
 /*
  * Sheet call: what the pair lister prints for a text. A text that is refused has its sheet too, the line `refused N at P`:

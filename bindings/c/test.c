@@ -513,9 +513,58 @@ static void neighbours_refused(const char *what, size_t memory_len, size_t numbe
     check(untouched(index_list, 0, sizeof index_list), "index neighbours", what, "a refusal changed the list");
 }
 
+static struct reply call_index_remove(const char *what, size_t memory_len, size_t number)
+{
+    struct reply r = {99, 99, 99};
+    memcpy(memory_before, index_memory, sizeof index_memory);
+    r.result = norbelath_index_remove(index_memory, memory_len, number, &r.first, &r.second);
+    check(untouched(index_memory, NORBELATH_INDEX_BYTES, sizeof index_memory), "index remove", what,
+          "the memory was changed behind the index");
+    return r;
+}
+
+/* Whether the memory is that before the call without the slot and the entries of the number, and without gaps. */
+static int is_taken_out(size_t number)
+{
+    static uint8_t expected[NORBELATH_INDEX_BYTES];
+    memset(expected, 0, sizeof expected);
+    memcpy(expected, memory_before, ENTRIES_AT);
+    memset(expected + SLOT * number, 0, SLOT);
+    for (size_t from = ENTRIES_AT, to = ENTRIES_AT; from < sizeof expected; from += 2) {
+        /* The zeros behind the entries go with the number 0, which leaves zeros. */
+        if (memory_before[from] != number) {
+            memcpy(expected + to, memory_before + from, 2);
+            to += 2;
+        }
+    }
+    return memcmp(index_memory, expected, sizeof expected) == 0;
+}
+
+static void take_out_in(size_t memory_len, const char *what, size_t number)
+{
+    struct reply r = call_index_remove(what, memory_len, number);
+    check(same(r, NORBELATH_ACCEPTED, 0, 0), "index remove", what, "another answer was expected");
+    check(is_taken_out(number), "index remove", what, "other bytes were expected");
+}
+
+static void take_out(const char *what, size_t number)
+{
+    take_out_in(NORBELATH_INDEX_BYTES, what, number);
+}
+
+static void removal_refused(const char *what, size_t memory_len, size_t number, uint8_t refusal)
+{
+    struct reply r = call_index_remove(what, memory_len, number);
+    check(same(r, refusal, 0, 0), "index remove", what, "another refusal was expected");
+    check(memcmp(index_memory, memory_before, sizeof index_memory) == 0, "index remove", what,
+          "a refusal changed the memory");
+}
+
+/* Neither asking nor removing finds a tree with this number. */
 static void not_held(const char *what, size_t number)
 {
     neighbours_refused(what, NORBELATH_INDEX_BYTES, number, NORBELATH_INDEX_LIST, NORBELATH_NOT_HELD);
+    removal_refused(what, NORBELATH_INDEX_BYTES, number, NORBELATH_NOT_HELD);
 }
 
 /* One byte more than the sheet call asks for. */
@@ -1367,6 +1416,82 @@ static void index_with_gaps(void)
     neighbours("the last number", 159, NO_NEIGHBOURS);
     add("64;", 0);
     add_refused("63;", 3, NORBELATH_INDEX_BYTES, NORBELATH_LABELS_DIFFER, 2);
+    take_out("the last number", 159);
+    index_is("64", 0, 1, BYTES(64), NO_BYTES);
+}
+
+/* Without the tree that was added last, the bytes are those before the addition. */
+static void last_taken_out(void)
+{
+    static uint8_t before[NORBELATH_INDEX_BYTES];
+    const char *trees[] = {"((1,2),3);", "(2,(3,1));", "(3,(2,1));", "(1,(2,3));"};
+    clear_index();
+    for (size_t i = 0; i < sizeof trees / sizeof trees[0]; i++) {
+        memcpy(before, index_memory, sizeof before);
+        add(trees[i], i);
+        take_out(trees[i], i);
+        check(memcmp(index_memory, before, sizeof before) == 0, "index remove", trees[i],
+              "the bytes before the addition were expected");
+        not_held(trees[i], i);
+        add(trees[i], i);
+    }
+    neighbours("four trees", 3, NEIGHBOURS(0, 1, 2));
+}
+
+/* The one between two copies, and then either copy; the same bytes, however much is lent and whatever lies behind. */
+static void middle_and_copies_taken_out(void)
+{
+    const size_t lent[] = {NORBELATH_INDEX_BYTES, NORBELATH_INDEX_BYTES + 1, sizeof index_memory};
+    for (size_t i = 0; i < sizeof lent / sizeof lent[0]; i++) {
+        clear_index();
+        write_three();
+        take_out_in(lent[i], "the second of three", 1);
+        index_is("a gap between copies", 0, 5, BYTES(67, 66, 1, 2, 3, 0, 0, 0, 0, 0, 67, 66, 1, 2, 3),
+                 BYTES(0, 3, 2, 3, 0, 2, 2, 2, 0, 1, 2, 1, 0, 0, 2, 0));
+        not_held("a gap between copies", 1);
+        neighbours("a gap between copies", 0, NO_NEIGHBOURS);
+        neighbours("a gap between copies", 2, NO_NEIGHBOURS);
+        add_in(lent[i], "((3,1),2);", 1);
+        is_three("the gap filled");
+
+        take_out_in(lent[i], "the first of two copies", 0);
+        index_is("without the first", 1, 5, three_slots + 5, 10,
+                 BYTES(1, 2, 2, 3, 1, 3, 2, 2, 1, 1, 2, 1, 1, 0, 2, 0));
+        neighbours("without the first", 1, NEIGHBOURS(2));
+        neighbours("without the first", 2, NEIGHBOURS(1));
+        not_held("without the first", 0);
+        add_in(lent[i], "(1,(3,2));", 0);
+        neighbours("another first", 0, NEIGHBOURS(1, 2));
+        take_out_in(lent[i], "another first", 0);
+        add_in(lent[i], "(3,(1,2));", 0);
+        is_three("the first again");
+
+        take_out_in(lent[i], "the second of two copies", 2);
+        index_is("without the copy", 0, 5, three_slots, 10, BYTES(0, 3, 1, 2, 0, 2, 1, 3, 0, 1, 1, 1, 1, 0, 0, 0));
+        neighbours("without the copy", 0, NEIGHBOURS(1));
+    }
+}
+
+/* Without its last tree an index is zeros, whatever number that had, and the next tree may have any labels. */
+static void only_one_taken_out(void)
+{
+    const char *trees[] = {"7;", "((1,2),3);", "(64,(1,63));", "(2,1);", "1;"};
+    clear_index();
+    for (size_t i = 0; i < sizeof trees / sizeof trees[0]; i++) {
+        add(trees[i], 0);
+        take_out(trees[i], 0);
+        index_is(trees[i], 0, 1, NO_BYTES, NO_BYTES);
+        not_held(trees[i], 0);
+    }
+    write_three();
+    take_out("three trees", 0);
+    take_out("three trees", 2);
+    add_refused("(1,2);", 6, NORBELATH_INDEX_BYTES, NORBELATH_LABELS_DIFFER, 5);
+    take_out("three trees", 1);
+    index_is("none of three trees", 0, 1, NO_BYTES, NO_BYTES);
+    add("(1,2);", 0);
+    add_refused("((1,2),3);", 10, NORBELATH_INDEX_BYTES, NORBELATH_LABELS_DIFFER, 9);
+    index_is("other labels", 0, 3, BYTES(66, 1, 2), BYTES(0, 1, 0, 0));
 }
 
 /* Entry k, and the text that the cut call writes for it, with zeros behind. */
@@ -1424,6 +1549,8 @@ static void deepest_in_index(void)
     check(memcmp(index_memory + ENTRIES_AT + 252, zeros, NORBELATH_INDEX_BYTES - ENTRIES_AT - 252) == 0, "index",
           deepest[0], "zeros were expected behind the entries");
     neighbours(deepest[0], 0, NO_NEIGHBOURS);
+    take_out(deepest[0], 0);
+    check(memcmp(index_memory, zeros, sizeof zeros) == 0, "index", deepest[0], "zeros were expected");
 }
 
 /* What the graph choosing call, which was just made, gives as neighbours of a position. */
@@ -1442,35 +1569,89 @@ static size_t partners(uint16_t position, uint64_t number_of_pairs, uint16_t *li
 
 /*
  * 160 trees of 64 leaves: combs whose labels go round 1 to 64 from another start, by 1, by 3 and by 5. One move takes
- * the deepest label to the root and makes the next of them. Then no tree fits, whatever its kind and labels are.
+ * the deepest label to the root and makes the next of them.
  */
+static char full_trees[NORBELATH_MAX_TREES][LONGEST + 1];
+
+/*
+ * Of these numbers, which are those of the held trees, every third has the list that the graph choosing call gives, where
+ * a position stands for the number at that place. There are so many pairs or more.
+ */
+static void lists_beside_the_graph(const char *what, const uint16_t *numbers, size_t held, size_t least)
+{
+    static char text[NORBELATH_MAX_TREES * LONGEST];
+    const struct lister keeping = {"graph choosing", call_keeping, KEPT_APART, 1, 0};
+    uint16_t expected[NORBELATH_MAX_TREES];
+    for (size_t i = 0; i < held; i++) {
+        memcpy(text + i * LONGEST, full_trees[numbers[i]], LONGEST);
+    }
+    struct reply r = list(keeping, text, held * LONGEST, enough);
+    check(r.result == NORBELATH_ACCEPTED && r.second >= least, keeping.name, what, "more pairs were expected");
+    for (uint16_t i = 0; i < held; i += 3) {
+        size_t listed = partners(i, r.second, expected);
+        for (size_t k = 0; k < listed; k++) {
+            expected[k] = numbers[expected[k]];
+        }
+        neighbours_in(0, what, numbers[i], expected, listed);
+    }
+}
+
+/* The full index: a number that was taken out is the only free one. Then all are taken out, in a mixed order. */
+static void full_index_emptied(void)
+{
+    static uint8_t full[NORBELATH_INDEX_BYTES];
+    const size_t some[] = {0, 77, 159};
+    uint16_t numbers[NORBELATH_MAX_TREES];
+    memcpy(full, index_memory, sizeof full);
+    for (size_t i = 0; i < sizeof some / sizeof some[0]; i++) {
+        take_out("160 trees", some[i]);
+        not_held("159 trees", some[i]);
+        add(full_trees[some[i]], some[i]);
+        check(memcmp(index_memory, full, sizeof full) == 0, "index", "160 trees again", "the same bytes were expected");
+        add_refused(full_trees[0], LONGEST, NORBELATH_INDEX_BYTES, NORBELATH_TOO_MANY_TREES, 0);
+    }
+    for (size_t i = 0; i < NORBELATH_MAX_TREES; i++) {
+        take_out("fewer and fewer trees", (11 + 37 * i) % NORBELATH_MAX_TREES);
+        if (i == 79) {
+            size_t held = 0;
+            for (uint16_t number = 0; number < NORBELATH_MAX_TREES; number++) {
+                if (index_memory[SLOT * number] != 0) {
+                    numbers[held++] = number;
+                }
+            }
+            check(held == 80, "index", "half of the trees", "80 trees were expected");
+            lists_beside_the_graph("half of the trees", numbers, held, 30);
+        }
+    }
+    index_is("none of 160 trees", 0, 1, NO_BYTES, NO_BYTES);
+    not_held("none of 160 trees", 0);
+    add("(64,9);", 0);
+    index_is("after 160 trees", 0, 3, BYTES(66, 9, 64), BYTES(0, 0, 0, 1));
+}
+
+/* When 160 trees are held no tree fits, whatever its kind and labels are, until one is taken out. */
 static void full_index(void)
 {
-    static char trees[NORBELATH_MAX_TREES][LONGEST + 1], text[NORBELATH_MAX_TREES * LONGEST];
-    uint16_t expected[NORBELATH_MAX_TREES];
+    uint16_t numbers[NORBELATH_MAX_TREES];
     clear_index();
-    for (unsigned i = 0; i < NORBELATH_MAX_TREES; i++) {
-        strcpy(write_comb(trees[i], 1 + i % 64, 1 + 2 * (i / 64), 64), ";");
-        memcpy(text + i * LONGEST, trees[i], LONGEST);
-        add(trees[i], i);
+    for (uint16_t i = 0; i < NORBELATH_MAX_TREES; i++) {
+        strcpy(write_comb(full_trees[i], 1 + i % 64, 1 + 2 * (i / 64), 64), ";");
+        add(full_trees[i], i);
+        numbers[i] = i;
     }
-    check(entries_in_order(trees, NORBELATH_MAX_TREES), "index", "160 trees", "other entries were expected");
-    const struct lister keeping = {"graph choosing", call_keeping, KEPT_APART, 1, 0};
-    struct reply r = list(keeping, text, sizeof text, enough);
-    check(r.result == NORBELATH_ACCEPTED && r.second >= 150, keeping.name, "160 trees",
-          "150 pairs or more were expected");
-    for (uint16_t i = 0; i < NORBELATH_MAX_TREES; i += 3) {
-        neighbours_in(0, "160 trees", i, expected, partners(i, r.second, expected));
-    }
+    check(entries_in_order(full_trees, NORBELATH_MAX_TREES), "index", "160 trees", "other entries were expected");
+    lists_beside_the_graph("160 trees", numbers, NORBELATH_MAX_TREES, 150);
     not_held("160 trees", 160);
     not_held("160 trees", 256);
     not_held("160 trees", SIZE_MAX);
     add_refused("(1,2", 4, sizeof index_memory, NORBELATH_WRONG_BYTE, 4);
-    add_refused(trees[0], LONGEST - 1, NORBELATH_INDEX_BYTES, NORBELATH_WRONG_BYTE, LONGEST - 1);
-    add_refused(trees[0], LONGEST, NORBELATH_INDEX_BYTES, NORBELATH_TOO_MANY_TREES, 0);
+    add_refused(full_trees[0], LONGEST - 1, NORBELATH_INDEX_BYTES, NORBELATH_WRONG_BYTE, LONGEST - 1);
+    add_refused(full_trees[0], LONGEST, NORBELATH_INDEX_BYTES, NORBELATH_TOO_MANY_TREES, 0);
     add_refused("[&U](1,2,3);", 12, NORBELATH_INDEX_BYTES, NORBELATH_TOO_MANY_TREES, 0);
     add_refused("  7 ;", 5, NORBELATH_INDEX_BYTES, NORBELATH_TOO_MANY_TREES, 0);
     neighbours_refused("160 trees", NORBELATH_INDEX_BYTES - 1, 0, NORBELATH_INDEX_LIST, NORBELATH_SHORT_SLICE);
+    removal_refused("160 trees", NORBELATH_INDEX_BYTES - 1, 0, NORBELATH_SHORT_SLICE);
+    full_index_emptied();
 }
 
 /* 160 copies of one tree are all held, and none is a neighbour of another. */
@@ -1489,6 +1670,9 @@ static void index_of_copies(void)
               index_memory[ENTRIES_AT + 2 * 160] == 0 && index_memory[ENTRIES_AT + 2 * 160 + 1] == 2,
           "index", "160 copies", "ties by number were expected");
     add_refused("((1,2),3);", 10, NORBELATH_INDEX_BYTES, NORBELATH_TOO_MANY_TREES, 0);
+    take_out("160 copies", 53);
+    add("((1,3),2);", 53);
+    neighbours("159 copies", 52, NEIGHBOURS(53));
 }
 
 /* A text is refused as in the form call, and only then an unrooted tree, and then other labels. */
@@ -1557,10 +1741,39 @@ static void refused_questions(void)
     neighbours_refused("no index", sizeof index_memory, 160, numbers, NORBELATH_NO_INDEX);
 }
 
+/* Too short a memory goes before memory of no index, and that before a number that is not held. */
+static void refused_removals(void)
+{
+    const size_t bytes = NORBELATH_INDEX_BYTES;
+    const size_t others[] = {3, 159, 160, 255, 256, 257, (size_t)1 << 16, (size_t)1 << 32, SIZE_MAX - 1, SIZE_MAX};
+    const size_t too_short[] = {0, 1, ENTRIES_AT, bytes - 1};
+    clear_index();
+    write_three();
+    for (size_t i = 0; i < sizeof others / sizeof others[0]; i++) {
+        removal_refused("three trees", bytes, others[i], NORBELATH_NOT_HELD);
+        removal_refused("three trees", sizeof index_memory, others[i], NORBELATH_NOT_HELD);
+        removal_refused("three trees", bytes - 1, others[i], NORBELATH_SHORT_SLICE);
+    }
+    for (size_t i = 0; i < sizeof too_short / sizeof too_short[0]; i++) {
+        removal_refused("three trees", too_short[i], 1, NORBELATH_SHORT_SLICE);
+    }
+    is_three("after refusals");
+
+    index_memory[NORBELATH_INDEX_BYTES - 1] = 1;
+    removal_refused("no index", bytes - 1, 1, NORBELATH_SHORT_SLICE);
+    removal_refused("no index", bytes, 1, NORBELATH_NO_INDEX);
+    removal_refused("no index", sizeof index_memory, 1, NORBELATH_NO_INDEX);
+    for (size_t i = 0; i < sizeof others / sizeof others[0]; i++) {
+        removal_refused("no index", bytes - 1, others[i], NORBELATH_SHORT_SLICE);
+        removal_refused("no index", bytes, others[i], NORBELATH_NO_INDEX);
+    }
+}
+
 static void is_no_index(const char *what)
 {
     add_refused("((1,2),3);", 10, NORBELATH_INDEX_BYTES, NORBELATH_NO_INDEX, 0);
     neighbours_refused(what, NORBELATH_INDEX_BYTES, 0, NORBELATH_INDEX_LIST, NORBELATH_NO_INDEX);
+    removal_refused(what, NORBELATH_INDEX_BYTES, 0, NORBELATH_NO_INDEX);
 }
 
 /* Each of these bytes changed alone. */
@@ -1794,11 +2007,15 @@ int main(void)
     labels_of_two_digits();
     lists_of_an_index();
     index_with_gaps();
+    last_taken_out();
+    middle_and_copies_taken_out();
+    only_one_taken_out();
     deepest_in_index();
     full_index();
     index_of_copies();
     refused_additions();
     refused_questions();
+    refused_removals();
     damaged_index();
     slots_that_are_no_trees();
     sheets();

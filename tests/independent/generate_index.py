@@ -9,10 +9,12 @@ and at its end the memory.  Seeds, positions and file names are as in generate.p
 
 The first cases are the fixed ones: all small trees added one by one, full indexes
 of trees of one leaf, of five and of 64, texts for each refusal, numbers that are
-asked for, lengths that are lent, several reasons to refuse at once, and every byte
-of a small index changed in turn.  All others are drawn at random: chains of
-additions, indexes with gaps between the numbers, full ones, those of large trees,
-and damaged memory.
+asked for, lengths that are lent, several reasons to refuse at once, every byte of a
+small index changed in turn, and trees removed in each order and from each small
+set of numbers.  All others are drawn at random: chains of additions, indexes with
+gaps between the numbers, full ones, those of large trees, damaged memory, and runs
+of additions and removals, in any order, until none is held, or with the trees that
+came first removed.
 
 What an index holds is a dictionary from numbers to trees in canonical order, and
 its memory is made by index_parts.py; nothing is taken over from index.py, so that
@@ -20,6 +22,7 @@ what is made here also tests what is made there.
 """
 
 import argparse
+import functools
 import itertools
 import random
 import sys
@@ -39,6 +42,15 @@ FEWER_BITS = (2 ** 8, 2 ** 16, 2 ** 32, 2 ** 63)
 
 
 # Runs
+
+
+@functools.lru_cache(16)
+def parts_in(memory):
+    """The slots that are not zeros, and the entries, without the zeros at their ends,
+    each with its place."""
+    parts = [(place, memory[place:place + SLOT]) for place in range(0, ENTRIES_AT, SLOT)]
+    parts.append((ENTRIES_AT, memory[ENTRIES_AT:]))
+    return [(place, data.rstrip(b"\0")) for place, data in parts if any(data)]
 
 
 class Run:
@@ -66,10 +78,8 @@ class Run:
     def set(self, memory):
         """All bytes of the memory."""
         self.say(b"clear")
-        parts = [(place, memory[place:place + SLOT]) for place in range(0, ENTRIES_AT, SLOT)]
-        for place, data in parts + [(ENTRIES_AT, memory[ENTRIES_AT:])]:
-            if any(data):
-                self.put(place, data.rstrip(b"\0"))
+        for place, data in parts_in(memory):
+            self.put(place, data)
 
     def hold(self, trees):
         """The memory that holds these trees."""
@@ -87,11 +97,26 @@ class Run:
         self.calls.append(b"add %d\n%s\n" % (len(text), text))
 
     def add(self, tree, rng=None):
-        """Add a tree, in any layout if `rng` is given."""
+        """Add a tree, in any layout if `rng` is given, and give its number; None
+        where it is refused."""
         self.add_text(generate_rows.one_text(rng, generate.swapped(rng, tree)) if rng else generate.plain([tree]))
         free = [number for number in range(SLOTS) if number not in self.trees]
-        if free and not self.has_other_labels(tree):
-            self.trees[free[0]] = canonical(tree)
+        if not free or self.has_other_labels(tree):
+            return None
+        self.trees[free[0]] = canonical(tree)
+        return free[0]
+
+    def try_to_remove(self, *numbers):
+        """Remove the trees with these numbers.  What becomes of it is not noted, as in
+        `add_text`."""
+        for number in numbers:
+            self.say(b"remove", number)
+
+    def remove(self, *numbers):
+        """Remove the trees with these numbers; one that is not held is refused."""
+        self.try_to_remove(*numbers)
+        for number in numbers:
+            self.trees.pop(number, None)
 
     def labels(self):
         """The labels of the trees that are held, one or more."""
@@ -141,8 +166,8 @@ def numbered(rng, trees):
 
 
 def some_number(rng, trees):
-    """A number to ask for: mostly of a held tree, and else a free one, 160 or
-    more, or one that is held if it is taken modulo a power of 2."""
+    """A number to ask for or to remove: mostly of a held tree, and else a free one,
+    160 or more, or one that is held if it is taken modulo a power of 2."""
     held = rng.choice(sorted(trees) or [0])
     way = rng.random()
     if way < 0.7:
@@ -216,7 +241,8 @@ def full(rng):
 
 
 def large(rng):
-    """An index of few trees with up to 64 leaves."""
+    """An index of few trees with up to 64 leaves; at last all but one are removed, and
+    one is added."""
     run = Run(numbered(rng, some_trees(rng, (12, 20, 33, 63, 64), range(1, 4))))
     run.lend_more(rng)
     labels = run.labels()
@@ -224,15 +250,21 @@ def large(rng):
         run.add(next_tree(rng, run.trees.values(), labels), rng)
     run.ask(*rng.sample(sorted(run.trees), 2))
     damage(rng, run, 4)
+    while len(run.trees) > 1:
+        run.remove(some_number(rng, run.trees))
+    run.add(next_tree(rng, run.trees.values(), labels), rng)
+    run.ask(0, 1)
     return run.text()
 
 
 def damage(rng, run, times):
-    """Damaged memory, which is asked, and to which a tree is added."""
+    """Damaged memory, which is asked, from which a tree is removed, and to which one
+    is added."""
     labels = run.labels()
     for _ in range(times):
         run.set(damaged(rng, run.trees))
         run.ask(some_number(rng, run.trees))
+        run.try_to_remove(some_number(rng, run.trees))
         tree = next_tree(rng, run.trees.values(), labels)
         run.add_text(generate.plain([tree]) if rng.random() < 0.7 else refused_text(rng, labels))
     run.hold(run.trees)
@@ -264,6 +296,7 @@ def any_memory(rng):
                 place = rng.choice((rng.randrange(MEMORY), rng.randrange(SLOTS) * SLOT))
                 run.put(place, bytes([rng.randint(1, 80)]))
         run.ask(rng.randrange(SLOTS))
+        run.try_to_remove(rng.randrange(SLOTS))
         run.add_text(generate_rows.tree_text(rng))
     return run.text()
 
@@ -293,7 +326,84 @@ def several_reasons(rng):
         run.ask(some_number(rng, run.trees))
         text = refused_text(rng, labels)
         run.add_text(text.ljust(MOST_BYTES + 1) if long else text)
+        run.try_to_remove(some_number(rng, run.trees))
         run.hold(run.trees)
+    return run.text()
+
+
+SMALL_SIZES = (1, 2, 3, 3, 4, 4, 5, 6, 8)
+
+
+def other_labels(rng):
+    """Labels for an index that holds no tree."""
+    return generate.random_labels(rng, rng.choice(SMALL_SIZES))
+
+
+def removals(rng):
+    """Additions, removals and questions in any order, at times more of the one, at
+    times of the other.  Some additions are taken back.  Where the last tree was
+    removed, the labels are others."""
+    run = Run(numbered(rng, some_trees(rng, SMALL_SIZES, range(10))))
+    run.lend_more(rng)
+    labels = run.labels() if run.trees else other_labels(rng)
+    for _ in range(rng.randint(6, 24)):
+        growth = rng.choice((0.2, 0.4, 0.6))
+        for _ in range(rng.randint(5, 20)):
+            way = rng.random()
+            if way < growth:
+                number = run.add(next_tree(rng, run.trees.values(), labels), rng)
+                if number is not None and rng.random() < 0.2:
+                    run.remove(number)
+            elif way < 0.8:
+                run.remove(some_number(rng, run.trees))
+            else:
+                run.ask(some_number(rng, run.trees))
+            if not run.trees:
+                labels = other_labels(rng)
+    run.ask(*run.trees)
+    return run.text()
+
+
+def emptied(rng):
+    """An index, at times a full one, from which all trees are removed, in order, in
+    the other order or in none; then two trees of other labels, and one removed."""
+    run = Run(numbered(rng, some_trees(rng, SMALL_SIZES, (2, 5, 12, 30, 30, SLOTS))))
+    run.lend_more(rng)
+    order = sorted(run.trees, reverse=rng.random() < 0.5)
+    if rng.random() < 0.5:
+        rng.shuffle(order)
+    for number in order:
+        run.remove(number)
+        if rng.random() < 0.2:
+            run.remove(number)
+            run.ask(some_number(rng, run.trees))
+    labels = other_labels(rng)
+    for _ in range(2):
+        run.add(generate.random_tree(rng, labels), rng)
+    run.ask(0, 1)
+    run.remove(0)
+    run.ask(0, 1)
+    return run.text()
+
+
+def turnover(rng):
+    """An index, at times a full one, from which the trees that came first are
+    removed, and others are added in their place; then one that is refused where it
+    is full."""
+    arrived = some_trees(rng, SMALL_SIZES, (3, 8, 20, SLOTS, SLOTS))
+    labels = generate.labels_of(arrived[0])
+    run = Run(dict(enumerate(arrived)))
+    run.lend_more(rng)
+    order = list(run.trees)
+    for _ in range(rng.randint(3, 12)):
+        discarded = rng.randint(1, min(6, len(order)))
+        run.remove(*order[:discarded])
+        run.ask(some_number(rng, run.trees))
+        del order[:discarded]
+        for _ in range(discarded):
+            order.append(run.add(next_tree(rng, arrived, labels), rng))
+        run.ask(*(some_number(rng, run.trees) for _ in range(2)))
+    run.add(rng.choice(arrived), rng)
     return run.text()
 
 
@@ -303,10 +413,13 @@ KINDS = (
     ("gaps", 5, gaps),
     ("full", 3, full),
     ("large", 2, large),
-    ("damaged", 9, damaged_index),
+    ("damaged", 11, damaged_index),
     ("any-memory", 1, any_memory),
     ("texts", 3, texts),
     ("several-reasons", 4, several_reasons),
+    ("removals", 9, removals),
+    ("emptied", 3, emptied),
+    ("turnover", 3, turnover),
 )
 
 
@@ -449,6 +562,11 @@ def length_run():
             for text in (b"(2,1);", b"(2,3);", b"x", b" " * 65536):
                 run.set(memory)
                 run.add_text(text)
+            # However long a list is lent, a removal has none.
+            for listed in (0, LIST):
+                run.say(b"list", listed)
+                run.set(memory)
+                run.try_to_remove(5, 0, 1)
     return run
 
 
@@ -471,16 +589,19 @@ def order_run():
         run.say(b"list", listed)
         run.set(memory)
         run.ask(0, 1, 160)
+        run.try_to_remove(160, 1, 0)
     return run
 
 
-def one_byte(run, memory, place, byte, asked=(0,), added=(b"",)):
-    """One byte of the memory changed: questions, and texts that are refused
-    whatever it holds."""
+def one_byte(run, memory, place, byte, asked=(0,), added=(b"",), removed=()):
+    """One byte of the memory changed: questions, texts that are refused whatever it
+    holds, and removals.  Where one of these may be accepted, the memory has to be set
+    anew."""
     run.put(place, bytes([byte]))
     run.ask(*asked)
     for text in added:
         run.add_text(text)
+    run.try_to_remove(*removed)
     run.put(place, memory[place:place + 1])
 
 
@@ -489,8 +610,10 @@ SWEEPS = 16
 
 
 def sweep_runs():
-    """Each byte of a small index changed once; it is asked, or added to, or both
-    where it has trees or entries or is near to them."""
+    """Each byte of a small index changed once; it is asked, or added to, and every
+    third time a tree is removed; all of these where it has trees or entries or is
+    near to them.  No removal is accepted: one byte of this index cannot be changed so
+    that it is that of other trees."""
     memory = memory_of(SWEPT)
     near = set(range(5 * SLOT)) | set(range(ENTRIES_AT - SLOT, ENTRIES_AT + 100)) | set(range(MEMORY - 32, MEMORY))
     runs = []
@@ -501,14 +624,15 @@ def sweep_runs():
             byte = (memory[place] + 1 + place % 255) % 256
             asked = (place % 4,) if place in near or place % 2 == 1 else ()
             added = (b"",) if place in near or place % 2 == 0 else ()
-            one_byte(run, memory, place, byte, asked, added)
+            removed = (place // 3 % 4,) if place in near or place % 3 == 0 else ()
+            one_byte(run, memory, place, byte, asked, added, removed)
         runs.append(run)
     return runs
 
 
 def value_runs():
-    """Each byte of the trees and the entries of small indexes changed to each
-    other; then trees of one leaf in each slot."""
+    """Each byte of the trees and the entries of small indexes changed to each other,
+    and at times a tree removed; then trees of one leaf in each slot."""
     runs = []
     for trees in (SWEPT, {2: ((1, 3), 2)}, {0: (2, 10), 1: (2, 10)}, {0: (2, 10)}):
         run = Run(trees)
@@ -519,27 +643,132 @@ def value_runs():
         for place, byte in itertools.product(places + list(range(ENTRIES_AT, end + 3)), range(256)):
             if byte != memory[place]:
                 one_byte(run, memory, place, byte, (min(trees),), (b"",) if byte % 8 == 0 else ())
+            if byte != memory[place] and byte % 8 < 3:
+                one_byte(run, memory, place, byte, (), (), (max(trees),))
+                run.set(memory)
         runs.append(run)
     for trees in ({}, {1: 7}, {0: 7, 1: 7, 159: 7}):
         run = Run(trees)
         memory = memory_of(trees)
         for number, byte in itertools.product(range(SLOTS), (1, 7, 64, 65, 66, 255)):
             if byte != memory[number * SLOT]:
-                one_byte(run, memory, number * SLOT, byte, (number, 1), (b"1",))
+                one_byte(run, memory, number * SLOT, byte, (number, 1), (b"1",), (number,))
+                run.set(memory)
         runs.append(run)
     return runs
 
 
 def added_run():
-    """Each byte of the trees and the entries of a small index changed, and a tree
-    added to it that it would take."""
+    """Each byte of the trees and the entries of a small index changed, and the last
+    byte of all; the first two leaves exchanged; and each tree removed from it, and one
+    added to it, that it would take.  None of these is accepted."""
     run = Run(SWEPT)
     memory = memory_of(SWEPT)
-    for place in range(MEMORY):
-        if memory[place]:
-            for byte in (0, memory[place] - 1, memory[place] + 1):
-                run.set(memory[:place] + bytes([byte]) + memory[place + 1:])
-                run.add_text(b"(1,(2,(3,4)));")
+    changed = [
+        memory[:place] + bytes([byte]) + memory[place + 1:] for place in range(MEMORY) if memory[place]
+        for byte in (0, memory[place] - 1, memory[place] + 1)
+    ]
+    for other in changed + [memory[:-1] + b"\1", memory[:2] + memory[3:4] + memory[2:3] + memory[4:]]:
+        run.set(other)
+        run.try_to_remove(*SWEPT)
+        run.add_text(b"(1,(2,(3,4)));")
+    return run
+
+
+def removal_runs():
+    """From each set of numbers below five, each number below six removed, and then a
+    tree added; four trees, of which two are copies, removed in each order, and then
+    trees of other labels; and each tree of few leaves added and removed again."""
+    trees = generate.all_trees((1, 2, 3)) * 2
+    each = Run()
+    for size in range(6):
+        for held, number in itertools.product(itertools.combinations(range(5), size), range(6)):
+            each.hold(dict(zip(held, trees)))
+            each.remove(number)
+            each.ask(number, *each.trees)
+            each.add(trees[number])
+    orders = Run()
+    for order in itertools.permutations(range(4)):
+        for tree in trees[:4]:
+            orders.add(tree)
+        for number in order:
+            orders.remove(number)
+            orders.ask(*orders.trees)
+        for labels in ((9,), (2, 1), (1, 2, 3, 4)):
+            orders.remove(orders.add(generate.left_comb(labels)))
+    undone = Run()
+    for held in ((), (0,), (1,), (0, 2), (0, 1, 2), (0, 1, 5, 159)):
+        for tree in generate.all_trees((1, 2, 3)) + [7, (3, 1)]:
+            undone.hold(dict(zip(held, trees)))
+            added = undone.add(tree)
+            if added is not None:
+                undone.remove(added, added)
+    return [each, orders, undone]
+
+
+def emptied_runs():
+    """Full indexes of trees of one leaf, of two and of five, from which all trees are
+    removed: the first ones first, the last ones first, or every third one first; and
+    then other labels."""
+    rng = random.Random("fixed emptied")
+    five = generate.all_trees((1, 2, 9, 10, 33))
+    runs = []
+    for trees, order in (
+            ([7] * SLOTS, range(SLOTS)), ([(2, 10)] * SLOTS, range(SLOTS - 1, -1, -1)),
+            ((five + five)[:SLOTS], sorted(range(SLOTS), key=lambda number: number % 3))):
+        run = Run(dict(enumerate(trees)))
+        refuse_more(run)
+        for number in order:
+            run.remove(number)
+            if number % 40 == 0:
+                run.ask(number, *rng.sample(range(SLOTS), 2))
+        run.ask(0, 159)
+        run.remove(0)
+        for tree in (64, 64, 7):
+            run.add(tree)
+        runs.append(run)
+    return runs
+
+
+def largest_removals():
+    """Trees of 64 leaves: few, until none is left, and then one of one leaf; and a
+    full index, from which the last is removed, the first and some between, each time
+    with others added until it is full."""
+    rng = random.Random("fixed removals of 64 leaves")
+    near = generate.changing_move(rng, LEFT)
+    few = Run(dict(zip((0, 1, 2, 5, 159), (LEFT, near, RIGHT, LEFT, near))))
+    for number in (2, 0, 159, 1, 5):
+        few.remove(number)
+        few.ask(number, 1, 5)
+    few.add(7)
+    # With 9 beside the smaller labels, the last of the forest texts begins with (9,(10
+    # and is that of cut 1.  So the last byte is not 0 where all are held.
+    small, rest = (generate.left_comb(ALL_LABELS[:8]), 9), [generate.random_tree(rng, ALL_LABELS[9:])]
+    while len(rest) < 20:
+        rest.append(generate.random_move(rng, rng.choice(rest)))
+    trees = [(small, tree) for tree in rest]
+    most = Run(dict(zip(range(SLOTS), itertools.cycle(trees))))
+    for numbers in ((159,), (0,), (80, 3)):
+        most.remove(*numbers, numbers[0])
+        for tree in trees[:len(numbers)]:
+            most.add(tree, rng)
+    most.add(7)
+    most.ask(3)
+    return [few, most]
+
+
+def removed_numbers():
+    """Numbers that are removed, of an index with gaps: all that are not held, and
+    then those that are, each twice."""
+    run = Run({0: ((1, 2), 3), 2: (1, (2, 3)), 3: ((1, 2), 3), 159: ((1, 3), 2)})
+    held = list(run.trees)
+    run.remove(*(number for number in (*range(SLOTS + 3), 254, 255, 256) if number not in held))
+    for power in FEWER_BITS + (2 ** 31, 2 ** 62):
+        run.remove(power - 1, power, power + 1, power + 2, power + 159, power + 160)
+    run.remove(2 ** 64 - 1, 2 ** 64 - 2, 2 ** 64 - 97)
+    for number in (3, 159, 0, 2):
+        run.remove(number, number)
+        run.ask(*held)
     return run
 
 
@@ -549,6 +778,8 @@ def fixed_cases():
         ("small", small_runs()), ("gaps", gap_runs()), ("full", full_runs()), ("largest", largest_runs()),
         ("texts", text_runs()), ("numbers", [number_run()]), ("lengths", [length_run()]), ("order", [order_run()]),
         ("swept", sweep_runs()), ("values", value_runs()), ("added", [added_run()]),
+        ("removed", removal_runs()), ("emptied", emptied_runs()), ("largest-removed", largest_removals()),
+        ("removed-numbers", [removed_numbers()]),
     )
     return [(kind, run.text()) for kind, some in runs for run in some]
 

@@ -1,9 +1,10 @@
 /*
  * Makes the calls on an index that standard input asks for, one after another on one memory, and prints a line for
- * each: the number of the added tree, the neighbours, or the refusal, and then what the call changed in the memory. The
- * calls, and what may stand between them, are
+ * each: the number of the added tree, the neighbours, that a tree was removed, or the refusal, and then what the call
+ * changed in the memory. The calls, and what may stand between them, are
  *
  *   add LENGTH          and in a line of its own a text of so many bytes: add its tree
+ *   remove NUMBER       take out the tree with this number
  *   ask NUMBER          list the neighbours of the tree with this number
  *   memory              print what the memory holds
  *   clear               make the memory that of the empty index, which it is at first
@@ -84,11 +85,18 @@ static void keep(void)
     memcpy(kept, start, accessible);
 }
 
+static void print_unless_zero(uint64_t number)
+{
+    if (number != 0) {
+        printf(" with %" PRIu64 " for 0", number);
+    }
+}
+
 static void end_line(uint8_t result, uint64_t second)
 {
     print_rows(kept + accessible - BYTES);
-    if (result == NORBELATH_ACCEPTED && second != 0) {
-        printf(" with %" PRIu64 " for 0", second);
+    if (result == NORBELATH_ACCEPTED) {
+        print_unless_zero(second);
     }
     if (memcmp(kept, start, accessible - BYTES) != 0) {
         printf(" and changed before the memory");
@@ -110,6 +118,20 @@ static void add(size_t text_len)
         print_refusal(result, first, second);
     } else {
         printf("added %" PRIu64, first);
+    }
+    end_line(result, second);
+}
+
+static void take_out(size_t number)
+{
+    uint64_t first = UNTOUCHED, second = UNTOUCHED;
+    keep();
+    uint8_t result = norbelath_index_remove(memory, lent, number, &first, &second);
+    if (result != NORBELATH_ACCEPTED) {
+        print_refusal(result, first, second);
+    } else {
+        printf("removed");
+        print_unless_zero(first);
     }
     end_line(result, second);
 }
@@ -176,6 +198,8 @@ int main(void)
     while (scanf("%6s", name) == 1) {
         if (strcmp(name, "add") == 0 && read_size(&number, sizeof text) && read_bytes(text, number)) {
             add(number);
+        } else if (strcmp(name, "remove") == 0 && read_size(&number, SIZE_MAX)) {
+            take_out(number);
         } else if (strcmp(name, "ask") == 0 && read_size(&number, SIZE_MAX)) {
             ask(number);
         } else if (strcmp(name, "memory") == 0) {

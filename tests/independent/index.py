@@ -1,8 +1,9 @@
-"""Reference for the index of forests, written from ticket 10 of document 02.
+"""Reference for the index of forests, written from tickets 10 and 11 of document 02.
 
 The calls work on lent memory, a bytearray or a view of one:
 
     add(memory, text)         the number that the tree of the text is given
+    remove(memory, number)    None: the tree with this number is taken out
     neighbours(memory, number, room)
                               the neighbours of the tree with this number, as a
                               list; `room` is how many numbers the list may have
@@ -23,7 +24,8 @@ that is lent is ever looked at by itself.
 
 How it is made.  Each cut of each tree gives a tuple of its forest text, the number
 of the tree and that of the cut.  Sorted, these tuples stand in the order of the
-entries.  Nothing is put in between: each addition makes the whole memory anew.
+entries.  Nothing is put in between, and nothing is moved up: each addition and each
+removal makes the whole memory anew, from zeros.
 
 How neighbours are found.  All moves of the tree are gone through, and the trees
 whose topologies are among the results are the neighbours, but for copies.  No
@@ -52,8 +54,10 @@ TOO_SHORT = 7
 NO_INDEX = 12
 NOT_HELD = 13
 
-# A change of the memory is printed as the rows of so many bytes that it is in.
+# A change of the memory is printed as the rows of so many bytes that it is in.  First
+# it is looked for in blocks.
 ROW = 32
+BLOCK = 32 * ROW
 
 CACHED = 1024
 
@@ -115,11 +119,18 @@ def entries_of(held):
     )
 
 
-def memory_of(held):
-    """All bytes of the memory that holds these slots."""
+@functools.lru_cache(16)
+def memory_of_items(items):
+    """All bytes of the memory that holds these (number, slot)."""
+    held = dict(items)
     slots = b"".join(held.get(number, FREE) for number in range(SLOTS))
     entries = b"".join(bytes((number, cut)) for _, number, cut in entries_of(held))
     return (slots + entries).ljust(MEMORY, b"\0")
+
+
+def memory_of(held):
+    """All bytes of the memory that holds these slots."""
+    return memory_of_items(tuple(sorted(held.items())))
 
 
 @functools.lru_cache(16)
@@ -172,6 +183,16 @@ def add(memory, text):
 def free_number(held):
     """The smallest number that no tree has, where fewer than 160 are held."""
     return min(set(range(SLOTS)) - set(held))
+
+
+@returns_refusal
+def remove(memory, number):
+    """Take out the tree with this number; all others keep theirs."""
+    refuse_short(memory)
+    held = held_in(memory)
+    if number not in held:
+        raise Refused(NOT_HELD, 0, 0)
+    memory[:MEMORY] = memory_of({other: slot for other, slot in held.items() if other != number})
 
 
 @returns_refusal
@@ -251,11 +272,18 @@ class Run:
 
     def words(self, name, memory, argument):
         """Make a call on what is lent, and give its answer in words."""
-        answer = add(memory, argument) if name == b"add" else neighbours(memory, argument, self.room)
+        if name == b"add":
+            answer = add(memory, argument)
+        elif name == b"remove":
+            answer = remove(memory, argument)
+        else:
+            answer = neighbours(memory, argument, self.room)
         if isinstance(answer, Refusal):
             return b"refused %d in %d at %d" % answer
         if name == b"add":
             return b"added %d" % answer
+        if name == b"remove":
+            return b"removed"
         return b" ".join([b"neighbours"] + [b"%d" % number for number in [len(answer)] + answer])
 
 
@@ -263,9 +291,11 @@ def changes(before, memory):
     """The rows in which the memory differs from what it was."""
     if before == memory:
         return b""
+    blocks = [start for start in range(0, MEMORY, BLOCK) if before[start:start + BLOCK] != memory[start:start + BLOCK]]
     return b"".join(
         b" %d:%s" % (place, memory[place:place + ROW].hex().encode())
-        for place in range(0, MEMORY, ROW) if before[place:place + ROW] != memory[place:place + ROW]
+        for start in blocks for place in range(start, start + BLOCK, ROW)
+        if before[place:place + ROW] != memory[place:place + ROW]
     )
 
 

@@ -34,7 +34,7 @@ CALL_FLOORS = {
     "adding, 1": 600,
     "adding, 2": 120,
     "adding, 3": 80,
-    "adding, 4": 30,
+    "adding, 4": 25,
     "adding, 5": 250,
     "adding, 6": 250,
     "adding, 7": 300,
@@ -75,8 +75,50 @@ CALL_FLOORS = {
     "held in fewer bits": 150,
 }
 
-# The same for 12, in adding and in asking: what makes a memory that of no held trees,
-# if it is one thing only.
+# The same for what has to do with removing.
+REMOVAL_FLOORS = {
+    # Removals: of the only tree, and this where 160 were held; of the smallest number of
+    # several, of the greatest, of one between; of a tree with copies, with neighbours;
+    # with numbers that are not the first ones; of a full index; of what the call before
+    # added; of a tree that has the first entry of several trees, or the last; with more
+    # memory lent than is needed.
+    "removed": 12000,
+    "removed the only": 800,
+    "emptied from 160": 10,
+    "removed the smallest": 1800,
+    "removed the greatest": 2400,
+    "removed between": 7000,
+    "removed a copy": 8000,
+    "removed a neighbour": 7500,
+    "removed with gaps": 8000,
+    "removed of 160": 100,
+    "removed of one leaf": 1500,
+    "removed of 64 leaves": 25,
+    "removed what was added": 2200,
+    "removed the first entry": 1300,
+    "removed the last entry": 1400,
+    "removed from more memory": 2500,
+    # Behind removals: additions with a number that was removed, of the 160th tree too;
+    # of other labels than those of the last tree; lists.
+    "added where one was removed": 8000,
+    "full again": 40,
+    "added other labels": 500,
+    "asked after a removal": 3500,
+    # Removals that are refused 7 and 13; of a number that was removed before, of any
+    # where none is held.
+    "removing, 7": 300,
+    "7 before 12, removing": 100,
+    "7 before 13, removing": 80,
+    "12 before 13, removing": 2500,
+    "removing, free": 2500,
+    "removing, 160 or more": 1400,
+    "removing, held in fewer bits": 250,
+    "removing, again": 1000,
+    "removing, none held": 700,
+}
+
+# The same for 12, in adding, in asking and in removing: what makes a memory that of no
+# held trees, if it is one thing only.
 FAULT_FLOORS = {
     # A slot: there is no whole tree; a fork has not as many leaves as it says; a label
     # twice; children not in order; more than zeros behind the tree; labels that
@@ -107,9 +149,10 @@ DAMAGED_FLOORS = {
 
 INDEX_FLOORS = {
     **CALL_FLOORS,
+    **REMOVAL_FLOORS,
     **{
         "%s, %s" % (call, sort): floors[sort]
-        for call in ("adding", "asking") for floors in (FAULT_FLOORS, DAMAGED_FLOORS) for sort in floors
+        for call in ("adding", "asking", "removing") for floors in (FAULT_FLOORS, DAMAGED_FLOORS) for sort in floors
     },
 }
 
@@ -206,15 +249,52 @@ def faults_of_entries(trees, entries):
     return faults
 
 
-def memory_fault(memory):
-    """What makes a memory that of no held trees: one thing of FAULT_FLOORS, or
-    "several"; None if nothing does."""
-    trees, faults = faults_of_slots(bytes(memory[:ENTRIES_AT]))
-    faults = faults or faults_of_entries(trees, bytes(memory[ENTRIES_AT:]))
+@functools.lru_cache(4)
+def fault_of(memory):
+    """As memory_fault, of a memory that does not change."""
+    trees, faults = faults_of_slots(memory[:ENTRIES_AT])
+    faults = faults or faults_of_entries(trees, memory[ENTRIES_AT:])
     return "several" if len(faults) > 1 else next(iter(faults)) if faults else None
 
 
+def memory_fault(memory):
+    """What makes a memory that of no held trees: one thing of FAULT_FLOORS, or
+    "several"; None if nothing does."""
+    return fault_of(bytes(memory))
+
+
 # Sorts
+
+
+class Traced(index.Run):
+    """A run, and what is known of the calls before one: the number that was given,
+    if no tree was removed since; the free numbers that were removed; the labels of
+    the last tree where it was removed; and whether 160 were held.  Where something is
+    put into the memory, all that is forgotten."""
+
+    def __init__(self):
+        """As a run begins."""
+        super().__init__()
+        self.forget()
+
+    def forget(self):
+        """Nothing was called before."""
+        self.added = None
+        self.removed = set()
+        self.last_labels = None
+        self.was_full = False
+
+    def prepare(self, name, arguments):
+        """As that of index.Run."""
+        if name in (b"clear", b"put"):
+            self.forget()
+        return super().prepare(name, arguments)
+
+    def change(self, rows):
+        """Put the rows into the memory that stand in the line of a call."""
+        for row in rows:
+            place, data = row.split(b":")
+            self.memory[int(place):int(place) + index.ROW] = bytes.fromhex(data.decode())
 
 
 def slots_held(memory):
@@ -244,10 +324,18 @@ def fault_sorts(name, memory):
     })
 
 
+def labels_of(slot):
+    """The labels of the tree in a slot."""
+    return set(labels_in(slot_faults(slot)[0]))
+
+
 def added_sorts(run, number, before):
     """The sorts of an addition, told of the memory behind it."""
     slots = slots_held(run.memory)
     return ["added"] + sorts_in({
+        "added where one was removed": number in run.removed,
+        "full again": number in run.removed and len(slots) == SLOTS,
+        "added other labels": run.last_labels and run.last_labels != labels_of(slots[number]),
         "added to none": not before,
         "added into a gap": any(other > number for other in before),
         "added a copy": slots[number] in before.values(),
@@ -290,6 +378,57 @@ def not_added_sorts(run, refusal, text):
     })
 
 
+def removed_sorts(run, number, before):
+    """The sorts of a removal, told of the slots and the entries before it."""
+    slots, entries = before
+    others = {other: slot for other, slot in slots.items() if other != number}
+    own = set(forests(slot_faults(slots[number])[0]))
+    return ["removed"] + sorts_in({
+        "removed the only": not others,
+        "emptied from 160": not others and run.was_full,
+        "removed the smallest": others and number < min(others),
+        "removed the greatest": others and number > max(others),
+        "removed between": others and min(others) < number < max(others),
+        "removed a copy": slots[number] in others.values(),
+        "removed a neighbour": any(
+            slot != slots[number] and own.intersection(forests(slot_faults(slot)[0])) for slot in others.values()),
+        "removed with gaps": max(slots) >= len(slots),
+        "removed of 160": len(slots) == SLOTS,
+        "removed of one leaf": leaves_in(slots[number]) == 1,
+        "removed of 64 leaves": leaves_in(slots[number]) == 64,
+        "removed what was added": run.added == number,
+        "removed the first entry": others and own and entries[0] == number,
+        "removed the last entry": others and own and entries[2 * len(own) * len(slots) - 2] == number,
+        "removed from more memory": run.lent > index.MEMORY,
+    })
+
+
+def not_removed_sorts(run, refusal, number):
+    """The sorts of a removal that is refused."""
+    line, _ = refusal
+    free = number >= SLOTS or run.memory[number * SLOT] == 0
+    if line == 12:
+        return fault_sorts("removing", run.memory) + sorts_in({"12 before 13, removing": free})
+    if line == 7:
+        return ["removing, 7"] + sorts_in({
+            "7 before 12, removing": memory_fault(run.memory),
+            "7 before 13, removing": free,
+        })
+    held = slots_held(run.memory)
+    return sorts_in({
+        "removing, free": number < SLOTS,
+        "removing, 160 or more": number >= SLOTS,
+        "removing, held in fewer bits": held_in_fewer_bits(held, number),
+        "removing, again": number in run.removed,
+        "removing, none held": not held,
+    })
+
+
+def held_in_fewer_bits(held, number):
+    """Whether a number that is not held is, if only its last bits are looked at."""
+    return number >= SLOTS and any(number % 2 ** bits in held for bits in (8, 16, 32, 63))
+
+
 def listed_sorts(run, number, listed):
     """The sorts of a list of neighbours."""
     slots = slots_held(run.memory)
@@ -305,6 +444,7 @@ def listed_sorts(run, number, listed):
         "asked of 160": len(slots) == SLOTS and listed,
         "asked of 64 leaves": leaves_in(slots[number]) == 64 and listed,
         "asked with more memory": run.lent > index.MEMORY,
+        "asked after a removal": run.removed and listed,
     })
 
 
@@ -325,8 +465,11 @@ def not_asked_sorts(run, refusal, number):
     return sorts_in({
         "free": number < SLOTS,
         "160 or more": number >= SLOTS,
-        "held in fewer bits": number >= SLOTS and any(number % 2 ** bits in held for bits in (8, 16, 32, 63)),
+        "held in fewer bits": held_in_fewer_bits(held, number),
     })
+
+
+NOT_ACCEPTED_SORTS = {b"add": not_added_sorts, b"remove": not_removed_sorts, b"ask": not_asked_sorts}
 
 
 def call_sorts(run, name, arguments, line):
@@ -334,22 +477,31 @@ def call_sorts(run, name, arguments, line):
     becomes that behind it."""
     words = line.split()
     if words[0] == b"refused":
-        refusal = int(words[1]), int(words[5])
-        return (not_added_sorts if name == b"add" else not_asked_sorts)(run, refusal, *arguments)
+        return NOT_ACCEPTED_SORTS[name](run, (int(words[1]), int(words[5])), *arguments)
     if name == b"ask":
         return listed_sorts(run, *arguments, [int(word) for word in words[2:]])
     if name == b"memory":
         return []
-    before = slots_held(run.memory)
-    for word in words[2:]:
-        place, row = word.split(b":")
-        run.memory[int(place):int(place) + index.ROW] = bytes.fromhex(row.decode())
-    return added_sorts(run, int(words[1]), before)
+    slots = slots_held(run.memory)
+    run.was_full |= len(slots) == SLOTS
+    if name == b"add":
+        number = int(words[1])
+        run.change(words[2:])
+        sorts = added_sorts(run, number, slots)
+        run.added, run.last_labels = number, None
+        run.removed.discard(number)
+    else:
+        (number,) = arguments
+        sorts = removed_sorts(run, number, (slots, run.memory[ENTRIES_AT:]))
+        run.change(words[1:])
+        run.added, run.last_labels = None, labels_of(slots[number]) if len(slots) == 1 else None
+        run.removed.add(number)
+    return sorts
 
 
 def index_sorts(text, expected):
     """The sorts of all calls of a case, as a list."""
-    run = index.Run()
+    run = Traced()
     lines = iter(expected.splitlines())
     return [
         sort for operation in index.operations(text) if not run.prepare(*operation)

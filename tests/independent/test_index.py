@@ -23,7 +23,7 @@ import index
 import index_parts
 import index_sorts
 import reference
-from index import ENTRIES_AT, LIST, MEMORY, SLOT, SLOTS, add, index_sheet, neighbours
+from index import ENTRIES_AT, LIST, MEMORY, SLOT, SLOTS, add, index_sheet, neighbours, remove
 
 ALL_LABELS = list(generate.ALL_LABELS)
 
@@ -58,6 +58,12 @@ class Example(unittest.TestCase):
         `(1,2) 3;`; ((1,3),2) has `2 (1,3);`, `(2,3) 1;`, `(1,2) 3;` and
         `(1,3) 2;`."""
         memory = holding(b"(3,(2,1));", b"(2,(1,3));", b"((1,2),3);")
+        self.assertEqual(memory, self.expected())
+        self.assertEqual(lists_of(memory, range(3)), {0: [1], 1: [0, 2], 2: [1]})
+        self.assertEqual(neighbours(memory, 3), (13, 0, 0))
+
+    def expected(self, *removed):
+        """The memory of these three trees without the removed ones."""
         slots = {0: [67, 66, 1, 2, 3], 1: [67, 66, 1, 3, 2], 2: [67, 66, 1, 2, 3]}
         entries = [
             (0, 3), (1, 2), (2, 3),  # (1,2) 3;
@@ -66,13 +72,42 @@ class Example(unittest.TestCase):
             (1, 0),                  # 2 (1,3);
             (0, 0), (2, 0),          # 3 (1,2);
         ]
-        expected = bytearray(60640)
+        memory = bytearray(60640)
         for number, nodes in slots.items():
-            expected[127 * number:127 * number + 5] = bytes(nodes)
-        expected[20320:20344] = bytes(itertools.chain.from_iterable(entries))
-        self.assertEqual(memory, expected)
-        self.assertEqual(lists_of(memory, range(3)), {0: [1], 1: [0, 2], 2: [1]})
-        self.assertEqual(neighbours(memory, 3), (13, 0, 0))
+            memory[127 * number:127 * number + 5] = bytes(0 if number in removed else node for node in nodes)
+        place = 20320
+        for entry in entries:
+            if entry[0] not in removed:
+                memory[place:place + 2] = bytes(entry)
+                place += 2
+        return memory
+
+    def test_removed(self):
+        """Each of the three trees removed, and then another."""
+        texts = b"(3,(2,1));", b"(2,(1,3));", b"((1,2),3);"
+        lists = {0: {1: [2], 2: [1]}, 1: {0: [], 2: []}, 2: {0: [1], 1: [0]}}
+        for first, left in lists.items():
+            memory = holding(*texts)
+            self.assertIsNone(remove(memory, first))
+            self.assertEqual(memory, self.expected(first))
+            self.assertEqual(lists_of(memory, left), left)
+            self.assertEqual(neighbours(memory, first), (13, 0, 0))
+            for second in left:
+                fewer = bytearray(memory)
+                self.assertIsNone(remove(fewer, second))
+                self.assertEqual(fewer, self.expected(first, second))
+            # The number is free again, and is given to the next tree.
+            self.assertEqual(add(memory, texts[first]), first)
+            self.assertEqual(memory, self.expected())
+
+    def test_last_removed(self):
+        """Where the last tree was removed, all bytes are 0, and any labels are taken."""
+        memory = holding(b"((1,2),3);")
+        for text in (b"7;", b"(1,3);", b"((1,2),4);", b"(1,(2,(3,64)));"):
+            self.assertEqual(add(memory, text), (5, 0, len(text) - 1))
+            self.assertIsNone(remove(memory, 0))
+            self.assertEqual(memory, bytes(60640))
+            self.assertEqual(add(memory, text), 0)
 
     def test_document_01(self):
         """The sheet's table of document 01."""
@@ -154,11 +189,31 @@ class Refusals(unittest.TestCase):
                 self.assertEqual(neighbours(some[:-1], number), (7, 0, 0))
         self.assertEqual(neighbours(memory, 1, LIST), [])
 
+    def not_removed(self, memory, number, expected):
+        """A removal is refused and leaves the memory as it was."""
+        before = bytes(memory)
+        self.assertEqual(remove(memory, number), expected)
+        self.assertEqual(memory, before)
+
+    def test_removing(self):
+        """7 before 12 before 13."""
+        memory, wrong = holding(b"(1,2);", b"(1,2);", b"(1,2);"), bytearray([255]) * MEMORY
+        self.assertIsNone(remove(memory, 1))
+        for number in (1, 3, 159, 160, 256, 258, 2 ** 32, 2 ** 64 - 1):
+            self.not_removed(memory, number, (13, 0, 0))
+        for number in (0, 1, 160, 2 ** 64 - 1):
+            self.not_removed(wrong, number, (12, 0, 0))
+            for some in (memory, wrong):
+                self.not_removed(some[:-1], number, (7, 0, 0))
+                self.not_removed(some[:0], number, (7, 0, 0))
+        self.assertIsNone(remove(memory, 2))
+
     def test_empty(self):
         """Zeros are the empty index, which takes any labels and has no number."""
         memory = bytearray(MEMORY)
         for number in (0, 1, 160):
             self.assertEqual(neighbours(memory, number), (13, 0, 0))
+            self.not_removed(memory, number, (13, 0, 0))
         self.assertEqual(add(memory, b"64;"), 0)
 
     def test_no_index(self):
@@ -198,6 +253,7 @@ class Refusals(unittest.TestCase):
             self.assertEqual(index_sorts.memory_fault(memory), fault)
             self.refused(bytearray(memory), b"((1,2),3);", (12, 0, 0))
             self.assertEqual(neighbours(bytearray(memory), 0), (12, 0, 0))
+            self.not_removed(bytearray(memory), 0, (12, 0, 0))
 
 
 class Properties(unittest.TestCase):
@@ -252,16 +308,68 @@ class Properties(unittest.TestCase):
         same trees in order of number; and it is told by shared forests."""
         for _, trees in random_indexes(73, 60):
             memory = bytearray(index_parts.memory_of(trees))
-            numbers = sorted(trees)
-            graph = reference.graph_choosing(generate.plain(map(trees.get, numbers)), merge=False)
-            near = collections.defaultdict(list)
-            for i, j in sorted(graph.pairs + [(j, i) for i, j in graph.pairs]):
-                near[numbers[i]].append(numbers[j])
-            self.assertEqual(lists_of(memory, numbers), {number: near[number] for number in numbers})
-            for number in numbers:
+            self.check_lists(memory, trees)
+            for number, near in lists_of(memory, trees).items():
                 own = set(index_parts.forests(trees[number]))
-                sharing = [x for x in numbers if trees[x] != trees[number] and own & set(index_parts.forests(trees[x]))]
-                self.assertEqual(near[number], sharing)
+                sharing = {x for x in trees if trees[x] != trees[number] and own & set(index_parts.forests(trees[x]))}
+                self.assertEqual(near, sorted(sharing))
+
+    def check_lists(self, memory, trees):
+        """The lists are those of the graph call, with each position read as the held
+        number at that place."""
+        numbers = sorted(trees)
+        graph = reference.graph_choosing(generate.plain(map(trees.get, numbers)), merge=False)
+        near = collections.defaultdict(list)
+        for i, j in sorted(graph.pairs + [(j, i) for i, j in graph.pairs]):
+            near[numbers[i]].append(numbers[j])
+        self.assertEqual(lists_of(memory, numbers), {number: near[number] for number in numbers})
+
+    def test_any_run(self):
+        """After any run of additions and removals, the memory is that of the trees that
+        are held, and the lists are those of the graph call."""
+        for rng, trees in random_indexes(77, 25, (1, 2, 3, 4, 5)):
+            labels, memory, held = generate.labels_of(next(iter(trees.values()))), bytearray(MEMORY), {}
+            for _ in range(30):
+                if rng.random() < 0.6 or not held:
+                    tree = generate_index.next_tree(rng, trees.values(), labels)
+                    number = add(memory, generate.plain([tree]))
+                    self.assertNotIn(number, held)
+                    self.assertLessEqual(set(range(number)), set(held))
+                    held[number] = index_parts.canonical(tree)
+                else:
+                    number = rng.choice(sorted(held))
+                    self.assertIsNone(remove(memory, number))
+                    del held[number]
+                self.assertEqual(memory, index_parts.memory_of(held))
+            self.check_lists(memory, held)
+
+    def test_taken_back(self):
+        """What was added is removed, and the memory is as before; so it is where what
+        was removed is added again, if its number is the smallest free one."""
+        for rng, trees in random_indexes(78, 60):
+            before = index_parts.memory_of(trees)
+            memory = bytearray(before)
+            tree = generate_index.next_tree(rng, trees.values(), generate.labels_of(next(iter(trees.values()))))
+            self.assertIsNone(remove(memory, add(memory, generate.plain([tree]))))
+            self.assertEqual(memory, before)
+            for number in trees:
+                self.assertIsNone(remove(memory, number))
+                self.assertNotEqual(memory, before)
+                again = add(memory, generate.plain([trees[number]]))
+                self.assertEqual(memory == before, again == number)
+                self.assertEqual(again == number, set(range(number)) <= set(trees))
+                memory = bytearray(before)
+
+    def test_order_of_removals(self):
+        """In which order trees are removed does not matter."""
+        for rng, trees in random_indexes(79, 40):
+            left = [number for number in trees if rng.random() < 0.5]
+            removed = [number for number in trees if number not in left]
+            for _ in range(3):
+                memory = bytearray(index_parts.memory_of(trees))
+                for number in rng.sample(removed, len(removed)):
+                    self.assertIsNone(remove(memory, number))
+                self.assertEqual(memory, index_parts.memory_of({number: trees[number] for number in left}))
 
     def test_order_of_additions(self):
         """The slots are as the texts came, the forests of the entries ascend."""
@@ -286,6 +394,7 @@ class Properties(unittest.TestCase):
                 seen[fault] += 1
                 self.assertEqual(add(memory, b"") == (12, 0, 0), fault is not None)
                 self.assertEqual(neighbours(memory, min(trees)) == (12, 0, 0), fault is not None)
+                self.assertEqual(remove(memory, SLOTS), (13 if fault is None else 12, 0, 0))
         self.assertEqual(set(seen), set(index_sorts.FAULT_FLOORS) | {"several", None})
         self.assertGreater(min(seen.values()), 9, seen)
         self.assertLess(seen[None], 600, seen)
@@ -309,6 +418,18 @@ class Sheet(unittest.TestCase):
         self.assertEqual(index_sheet(run), expected % (row, entries, row, entries))
         self.assertEqual(index_sheet(b""), b"")
         self.assertEqual(len(list(index.index_calls(run))), len(index_sheet(run).splitlines()))
+
+    def test_removed(self):
+        """What a removal changed, which may be all, or nothing."""
+        row, entries = b"420102".ljust(64, b"0"), b"00010000".ljust(64, b"0")
+        run = b"add 6\n(1,2);\nremove 1\nlend 0\nremove 0\nlend 60641\nlist 0\nremove 0\nremove 0\nmemory\n"
+        expected = (
+            b"added 0 0:%s 20320:%s\nrefused 13 in 0 at 0\nrefused 7 in 0 at 0\nremoved 0:%s 20320:%s\n"
+            b"refused 13 in 0 at 0\nmemory\n"
+        )
+        self.assertEqual(index_sheet(run), expected % (row, entries, b"0" * 64, b"0" * 64))
+        self.assertEqual(index_sheet(b"put 0 1\nA\nremove 0\n"), b"refused 12 in 0 at 0\n")
+        self.assertEqual(index_sheet(b"put 0 1\n7\nremove 0\n"), b"removed 0:%s\n" % (b"0" * 64))
 
     def test_list(self):
         """The number of neighbours, and they."""
@@ -337,12 +458,49 @@ def cheap_cases():
             ("small", generate_index.small_runs()), ("gaps", generate_index.gap_runs()),
             ("texts", generate_index.text_runs()), ("numbers", [generate_index.number_run()]),
             ("lengths", [generate_index.length_run()]), ("order", [generate_index.order_run()]),
+            ("removed", generate_index.removal_runs()), ("emptied", generate_index.emptied_runs()),
+            ("removed-numbers", [generate_index.removed_numbers()]), ("added", [generate_index.added_run()]),
         ) for run in runs
     ]
     chosen = generate.cases_of(fixed, generate_index.KINDS, 1, len(fixed) + 80)
     made = [(kind, text, index_sheet(text)) for _, kind, text in chosen if kind != "large"]
     ranks = collections.defaultdict(itertools.count)
     return sorted(sorted(made, key=lambda case: len(case[1])), key=lambda case: next(ranks[case[0]]))
+
+
+class CheckedRun(generate_index.Run):
+    """A run whose calls are made at once, and the memory compared with that of the
+    trees that it says are held."""
+
+    def __init__(self, trees=None):
+        """Begin with an index that holds these trees."""
+        self.reference, self.made = index.Run(), 0
+        super().__init__(trees)
+
+    def check(self):
+        """Make the calls that were said since, and compare."""
+        for operation in index.operations(b"".join(self.calls[self.made:])):
+            if not self.reference.prepare(*operation):
+                self.reference.line(*operation)
+        self.made = len(self.calls)
+        assert self.reference.memory == index_parts.memory_of(self.trees)
+
+    def hold(self, trees):
+        """As that of generate_index.Run."""
+        super().hold(trees)
+        self.check()
+
+    def add(self, tree, rng=None):
+        """As that of generate_index.Run."""
+        number = super().add(tree, rng)
+        self.check()
+        return number
+
+    def remove(self, *numbers):
+        """As that of generate_index.Run, one by one."""
+        for number in numbers:
+            super().remove(number)
+            self.check()
 
 
 class Generator(unittest.TestCase):
@@ -363,6 +521,17 @@ class Generator(unittest.TestCase):
             last = index_sheet(run.text()).splitlines()[-1]
             self.assertEqual(last, b"memory" + index.changes(bytes(MEMORY), index_parts.memory_of(run.trees)))
 
+    def test_model_of_each_call(self):
+        """The same behind each addition and removal of which it is noted what becomes
+        of it: the memory is the one that is made by paths.  The runs are those that
+        compare.py makes, without the longest ones."""
+        with mock.patch.object(generate_index, "Run", CheckedRun):
+            generate_index.removal_runs()
+            generate_index.emptied_runs()
+            generate_index.removed_numbers()
+            for position in range(60, 200):
+                generate.random_case(generate_index.KINDS, 1, position)
+
     def test_set(self):
         """A memory that is set is there, whatever its bytes are."""
         rng = random.Random(76)
@@ -380,7 +549,7 @@ class Generator(unittest.TestCase):
                     self.assertLessEqual(arguments[0] + len(arguments[1]), MEMORY)
                 elif name in (b"lend", b"list"):
                     self.assertLessEqual(arguments[0], {b"lend": 2 ** 23, b"list": 1024}[name])
-                elif name == b"ask":
+                elif name in (b"ask", b"remove"):
                     self.assertTrue(0 <= arguments[0] < 2 ** 64)
                 else:
                     self.assertIn(name, (b"add", b"clear", b"memory"))
@@ -403,7 +572,7 @@ class Generator(unittest.TestCase):
             sorts.update(index_sorts.index_sorts(text, expected))
             refused.update(compare.refusals_of_lines(expected))
         self.assertLessEqual(set(sorts), set(index_sorts.INDEX_FLOORS))
-        self.assertEqual(set(index_sorts.INDEX_FLOORS) - set(sorts), {"asked of 64 leaves"})
+        self.assertEqual(set(index_sorts.INDEX_FLOORS) - set(sorts), {"asked of 64 leaves", "removed of 64 leaves"})
         self.assertEqual(refused, set(compare.REFUSALS_OF_THE_INDEX))
 
     def test_some_sorts(self):
@@ -422,7 +591,16 @@ class Generator(unittest.TestCase):
                 (full + b"add 2\n8;\n", ["adding, 6", "6 before 5"]),
                 (full + b"add 1\n8\n", ["adding, 1", "the text's before 6"]),
                 (b"put 0 1\n\x41\nadd 0\n\nask 0\n", ["adding, no tree", "12 before the text's", "asking, no tree"]),
-                (b"list 0\nask 0\n", ["7 for the list", "7 before 13"]), (b"lend 0\nadd 0\n\n", ["adding, 7"])):
+                (b"list 0\nask 0\n", ["7 for the list", "7 before 13"]), (b"lend 0\nadd 0\n\n", ["adding, 7"]),
+                (b"lend 0\nremove 0\n", ["removing, 7", "7 before 13, removing"]),
+                (b"remove 3\n", ["removing, free", "removing, none held"]),
+                (begin + b"remove 258\n", ["removing, 160 or more", "removing, held in fewer bits"]),
+                (b"put 0 1\n\x41\nremove 1\n", ["removing, no tree", "12 before 13, removing"]),
+                (begin + b"remove 0\n", ["removed", "removed the smallest", "removed a copy", "removed with gaps",
+                                         "removed the first entry"]),
+                (b"put 0 1\n7\nremove 0\nadd 2\n8;\n", [
+                    "removed", "removed the only", "removed of one leaf", "added", "added where one was removed",
+                    "added other labels", "added to none", "added of one leaf"])):
             self.assertEqual(index_sorts.index_sorts(calls, index_sheet(calls)), expected, calls[-30:])
 
 
@@ -552,6 +730,185 @@ def asking(number_of=lambda number: number, free=None, order=(7, 12, 13)):
     return slipped_neighbours
 
 
+def trusted(memory):
+    """As index.held_in, but no entry is looked at, and where a slot is that of no
+    tree, none is held."""
+    return (index.set_of(bytes(memory[:ENTRIES_AT])) or [{}])[0]
+
+
+def without(held, number):
+    """What is left without a number."""
+    return {other: slot for other, slot in held.items() if other != number}
+
+
+def removing(made=lambda held, number: index.memory_of(without(held, number)), number_of=lambda number: number,
+             refuses=lambda held, number: False, order=(7, 12, 13), look=index.held_in):
+    """A removal behind which the memory is the one that is `made`, or in which a number
+    is taken for another, or is refused though it is held, or what may be refused is
+    tried in another order, or the memory is looked at in another way."""
+    @reference.returns_refusal
+    def slipped_remove(memory, number):
+        """As index.remove."""
+        number = number_of(number)
+        for line in order:
+            if line == 7:
+                index.refuse_short(memory)
+            elif line == 12:
+                held = look(memory)
+            elif number >= SLOTS or not memory[number * SLOT]:
+                raise reference.Refused(13, 0, 0)
+        if refuses(held, number):
+            raise reference.Refused(13, 0, 0)
+        memory[:MEMORY] = made(held, number)
+    return slipped_remove
+
+
+def entries_in(held):
+    """(number, cut) for each entry, in order."""
+    return [entry[1:] for entry in index.entries_of(held)]
+
+
+def leaving(entries=lambda held, number: entries_in(without(held, number)), slots=without):
+    """A removal that leaves these entries and these slots."""
+    def made(held, number):
+        """All bytes."""
+        left = slots(held, number)
+        parts = [left.get(other, index.FREE) for other in range(SLOTS)] + list(map(bytes, entries(held, number)))
+        return b"".join(parts).ljust(MEMORY, b"\0")
+    return removing(made)
+
+
+def leaving_slot(change):
+    """A removal that leaves something in the slot."""
+    return leaving(slots=lambda held, number: {**held, number: change(held[number])})
+
+
+def taking_out(chosen):
+    """A removal that takes out the entries (forest, number, cut) that are `chosen`."""
+    return leaving(lambda held, number: [
+        entry[1:] for entry in index.entries_of(held) if not chosen(entry, held, number)])
+
+
+def taking_out_but(place):
+    """A removal that takes out the right entries, but for the one at a place, be it of
+    the tree that is removed or not."""
+    return taking_out(lambda entry, held, number: entry[1] == number and entry != index.entries_of(held)[place])
+
+
+def gaps_left(held, number):
+    """The entries with zeros in place of those that are taken out."""
+    return [(0, 0) if entry[0] == number else entry for entry in entries_in(held)]
+
+
+def last_gap_left(held, number):
+    """The same for the last of these; the other gaps are closed."""
+    entries = entries_in(held)
+    places = [place for place, entry in enumerate(entries) if entry[0] == number]
+    for place in places[-1:]:
+        entries[place] = 0, 0
+    return [entry for place, entry in enumerate(entries) if place not in places[:-1]]
+
+
+def end_left(held, number):
+    """The entries closed up, and behind them what stood there before."""
+    left = entries_in(without(held, number))
+    return left + entries_in(held)[len(left):]
+
+
+def filled_from_the_end(held, number):
+    """The entries with the last ones in the gaps."""
+    entries, place = entries_in(held), 0
+    while place < len(entries):
+        if entries[place][0] != number:
+            place += 1
+        else:
+            entries[place] = entries[-1]
+            entries.pop()
+    return entries
+
+
+def place_among(held, number):
+    """How many smaller numbers are held."""
+    return sum(other < number for other in held)
+
+
+def leaving_trees(left):
+    """A removal that leaves these slots, with the entries of their trees."""
+    return removing(lambda held, number: index.memory_of(left(held, number)))
+
+
+def moved_down(held, number):
+    """Each tree above has a number less."""
+    return {other - (other > number): slot for other, slot in without(held, number).items()}
+
+
+def last_moved(held, number):
+    """The tree with the greatest number has the one that is free."""
+    left = without(held, number)
+    if left and max(left) > number:
+        left[number] = left.pop(max(left))
+    return left
+
+
+def without_at_place(held, number):
+    """The tree at this place, in order of number, is removed."""
+    return without(held, sorted(held)[min(number, len(held) - 1)])
+
+
+def without_first_copy(held, number):
+    """The first tree of the topology is removed."""
+    return without(held, min(other for other in held if held[other] == held[number]))
+
+
+def without_copies(held, number):
+    """All trees of the topology are removed."""
+    return {other: slot for other, slot in held.items() if slot != held[number]}
+
+
+def has_copies(held, number):
+    """Whether another tree has the topology too."""
+    return list(held.values()).count(held[number]) > 1
+
+
+@reference.returns_refusal
+def slot_cleared_first(memory, number):
+    """As index.remove, but the slot is cleared before the memory is looked at."""
+    index.refuse_short(memory)
+    before = bytes(memory)
+    if number < SLOTS:
+        memory[number * SLOT:(number + 1) * SLOT] = bytes(SLOT)
+    held = index.held_in(before)
+    if number not in held:
+        raise reference.Refused(13, 0, 0)
+    memory[:MEMORY] = index.memory_of(without(held, number))
+
+
+class LabelsKept(index.Run):
+    """A run in which the labels stay where the last tree was removed."""
+
+    kept = None
+
+    def prepare(self, name, arguments):
+        """As that of index.Run."""
+        if name in (b"clear", b"put"):
+            self.kept = None
+        return super().prepare(name, arguments)
+
+    def words(self, name, memory, argument):
+        """As that of index.Run, but for the refusal of other labels."""
+        before = bytes(self.memory)
+        words = super().words(name, memory, argument)
+        if words == b"removed" and not any(self.memory):
+            (slot,) = trusted(before).values()
+            self.kept = index.tree_in(slot).labels
+        elif words.startswith(b"added") and self.kept:
+            if index.tree_in(bytes(self.memory[:SLOT])).labels != self.kept:
+                self.memory[:] = before
+                return b"refused 5 in 0 at %d" % argument.rindex(b";")
+            self.kept = None
+        return words
+
+
 def as_rooted(text):
     """An unrooted tree is read as a rooted one."""
     return reference.read_one(text.replace(b"[&U]", b"[&R]"), 0)
@@ -606,7 +963,7 @@ SLIPS = {
     "last byte not compared": ("held_in", lenient(lambda lent, made, behind: lent == made and not any(behind[:-1]))),
     "next to the entries not compared": ("held_in", lenient(
         lambda lent, made, behind: lent == made and not any(behind[2:]))),
-    "no memory refused": ("held_in", lambda memory: (index.set_of(bytes(memory[:ENTRIES_AT])) or [{}])[0]),
+    "no memory refused": ("held_in", trusted),
     "leaves not counted": ("tree_in", lenient_slots(same_but_counts)),
     "children in any order": ("tree_in", lenient_slots(same_as_it_stands)),
     "behind a tree not compared": ("tree_in", lenient_slots(begins_the_slot)),
@@ -628,6 +985,47 @@ SLIPS = {
     "empty list for a free number": ("neighbours", asking(free=[])),
     "number before memory": ("neighbours", asking(order=(7, 13, 12))),
     "length last": ("neighbours", asking(order=(12, 13, 7))),
+    "slot not cleared": ("remove", leaving_slot(lambda slot: slot)),
+    "only the root cleared": ("remove", leaving_slot(lambda slot: b"\0" + slot[1:])),
+    "root not cleared": ("remove", leaving_slot(lambda slot: slot[:1].ljust(SLOT, b"\0"))),
+    "entries not taken out": ("remove", leaving(lambda held, number: entries_in(held))),
+    "gaps not closed": ("remove", leaving(gaps_left)),
+    "last gap not closed": ("remove", leaving(last_gap_left)),
+    "room behind the entries not cleared": ("remove", leaving(end_left)),
+    "gaps filled from the end": ("remove", leaving(filled_from_the_end)),
+    "first entry not taken out": ("remove", taking_out_but(0)),
+    "last entry not taken out": ("remove", taking_out_but(-1)),
+    "entries of the number at that place": ("remove", taking_out(
+        lambda entry, held, number: entry[1] == place_among(held, number))),
+    "entries of the next number": ("remove", taking_out(lambda entry, held, number: entry[1] == number + 1)),
+    "entries of the cut": ("remove", taking_out(lambda entry, held, number: entry[2] == number)),
+    "entries with the same forests": ("remove", taking_out(
+        lambda entry, held, number: entry[0] in index.forests_in(held[number]))),
+    "numbers above moved down": ("remove", leaving_trees(moved_down)),
+    "last tree moved into the gap": ("remove", leaving_trees(last_moved)),
+    "tree at that place removed": ("remove", leaving_trees(without_at_place)),
+    "first copy removed": ("remove", leaving_trees(without_first_copy)),
+    "all copies removed": ("remove", leaving_trees(without_copies)),
+    "nothing removed": ("remove", leaving_trees(lambda held, number: held)),
+    "label set kept after the last tree": ("Run", LabelsKept),
+    "copy not held": ("remove", removing(refuses=has_copies)),
+    "last tree not held": ("remove", removing(refuses=lambda held, number: len(held) == 1)),
+    "nothing held where all are": ("remove", removing(refuses=lambda held, number: len(held) == SLOTS)),
+    "first number not held": ("remove", removing(refuses=lambda held, number: number == 0)),
+    "last number not held": ("remove", removing(refuses=lambda held, number: number == SLOTS - 1)),
+    "number above how many are held": ("remove", removing(refuses=lambda held, number: number >= len(held))),
+    "free number removed": ("remove", removing(order=(7, 12))),
+    "number in 8 bits, removing": ("remove", removing(number_of=lambda number: number % 2 ** 8)),
+    "number in 16 bits, removing": ("remove", removing(number_of=lambda number: number % 2 ** 16)),
+    "number in 32 bits, removing": ("remove", removing(number_of=lambda number: number % 2 ** 32)),
+    "number with a sign, removing": ("remove", removing(number_of=lambda number: number % 2 ** 63)),
+    "number before memory, removing": ("remove", removing(order=(7, 13, 12))),
+    "length last, removing": ("remove", removing(order=(12, 13, 7))),
+    "entries not looked at, removing": ("remove", removing(look=trusted)),
+    "entries in any order, removing": ("remove", removing(look=all_but(sorted))),
+    "behind the entries not compared, removing": ("remove", removing(
+        look=lenient(lambda lent, made, behind: lent == made))),
+    "slot cleared before the memory is looked at": ("remove", slot_cleared_first),
 }
 
 
@@ -636,7 +1034,7 @@ def slipped(name, function):
     """index.py with a slip.  What sets of slots are is forgotten before and behind
     it; a slot and its forests have no part that a slip could change but for the slot
     itself."""
-    caches = [index.set_of] + [index.forests_in] * (name == "tree_in")
+    caches = [index.set_of, index.memory_of_items] + [index.forests_in] * (name == "tree_in")
     for cache in caches:
         cache.cache_clear()
     with mock.patch.object(index, name, function):
@@ -659,12 +1057,13 @@ class Slips(unittest.TestCase):
     def test_no_slips(self):
         """What the slips are made of gives the right sheets where nothing is left
         out."""
-        right = {
-            "entries_of": sorted_by(None), "near": forgetful_near(), "held_in": all_but(list),
-            "tree_in": lenient_slots(lambda tree, slot: index.slot_of(tree) == slot),
-            "add": adding((8, 12, 1, 6, 10, 5)), "neighbours": asking(),
-        }
-        for name, function in right.items():
+        right = (
+            ("entries_of", sorted_by(None)), ("near", forgetful_near()), ("held_in", all_but(list)),
+            ("tree_in", lenient_slots(lambda tree, slot: index.slot_of(tree) == slot)),
+            ("add", adding((8, 12, 1, 6, 10, 5))), ("neighbours", asking()), ("remove", removing()),
+            ("remove", leaving()), ("remove", taking_out(lambda entry, held, number: entry[1] == number)),
+        )
+        for name, function in right:
             cases = cheap_cases()[::3]
             with self.subTest(name=name), slipped(name, function):
                 for _, text, expected in cases:

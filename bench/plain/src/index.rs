@@ -100,8 +100,7 @@ impl Index {
     /// The numbers of the trees that are one move from the tree with this one,
     /// ascending: they share a forest with it, and are no copies.
     pub fn neighbours(&self, number: usize) -> Result<Vec<u16>, Refusal> {
-        let held = u8::try_from(number).ok().and_then(|x| self.trees.get(&x));
-        let tree = held.ok_or(refusal(NOT_HELD, 0))?;
+        let tree = &self.trees[&self.held(number)?];
         let mut sharing = BTreeSet::new();
         for forest in tree.forest_texts() {
             let first = self.entries.partition_point(|entry| entry.0 < forest);
@@ -111,6 +110,22 @@ impl Index {
         }
         sharing.retain(|x| self.trees[x].canonical_text() != tree.canonical_text());
         Ok(sharing.into_iter().map(u16::from).collect())
+    }
+
+    /// Takes the tree with this number out, and its entries.
+    pub fn remove(&mut self, number: usize) -> Result<(), Refusal> {
+        let number = self.held(number)?;
+        self.trees.remove(&number);
+        self.entries.retain(|entry| entry.1 != number);
+        Ok(())
+    }
+
+    /// The number, if a tree has it.
+    fn held(&self, number: usize) -> Result<u8, Refusal> {
+        u8::try_from(number)
+            .ok()
+            .filter(|x| self.trees.contains_key(x))
+            .ok_or(refusal(NOT_HELD, 0))
     }
 }
 

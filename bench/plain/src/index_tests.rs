@@ -133,25 +133,98 @@ fn gaps() {
     assert_eq!(index_neighbours(&longer, 1), Ok(vec![]));
 }
 
-/// All trees of five leaves: the lists of the index are those of the graph.
+/// Each list is that of the graph of the same trees, where a position stands for
+/// the number at that place. Gives how many pairs there are.
+fn pairs_beside_the_graph(index: &Index, trees: &[String]) -> usize {
+    let numbers: Vec<usize> = index.numbers().collect();
+    let table: String = numbers.iter().map(|&x| &*trees[x]).collect();
+    let graph = graph_with_copies(table.as_bytes()).unwrap();
+    let mut lists = vec![vec![]; numbers.len()];
+    for &(i, j) in &graph.pairs {
+        let (i, j) = (usize::from(i), usize::from(j));
+        lists[i].push(numbers[j] as u16);
+        lists[j].push(numbers[i] as u16);
+    }
+    for (&number, list) in numbers.iter().zip(&mut lists) {
+        list.sort_unstable();
+        assert_eq!(index.neighbours(number).as_ref(), Ok(&*list), "{number}");
+    }
+    graph.pairs.len()
+}
+
+/// All trees of five leaves, and then without every third of them.
 #[test]
 fn lists_beside_the_graph() {
     let trees = tests::rooted_topologies(5);
     let all: Vec<&str> = trees.iter().map(String::as_str).collect();
-    let index = index_of(&all);
-    let graph = graph_with_copies(all.concat().as_bytes()).unwrap();
-    let mut lists = vec![vec![]; all.len()];
-    for &(i, j) in &graph.pairs {
-        lists[usize::from(i)].push(j);
-        lists[usize::from(j)].push(i);
-    }
-    for (number, list) in lists.iter_mut().enumerate() {
-        list.sort_unstable();
-        assert_eq!(index.neighbours(number).as_ref(), Ok(&*list), "{number}");
-    }
+    let mut index = index_of(&all);
+    assert!(pairs_beside_the_graph(&index, &trees) > 500);
     let read = Index::of_memory(&index.memory()).unwrap();
     assert_eq!(read.neighbours(7), index.neighbours(7));
-    assert!(graph.pairs.len() > 500);
+    for number in (0..all.len()).step_by(3) {
+        assert_eq!(index.remove(number), Ok(()));
+    }
+    assert!(pairs_beside_the_graph(&index, &trees) > 200);
+    for number in (0..all.len()).step_by(3) {
+        assert_eq!(index.add(trees[number].as_bytes()), Ok(number));
+    }
+    assert_eq!(index.memory(), read.memory());
+}
+
+/// Two copies are left, and the number between them goes to the next tree.
+#[test]
+fn removals() {
+    let (mut index, memory) = three_trees();
+    assert_eq!(index.remove(1), Ok(()));
+    let slot: &[u8] = &[67, 66, 1, 2, 3];
+    let entries = [
+        [0, 3],
+        [2, 3],
+        [0, 2],
+        [2, 2],
+        [0, 1],
+        [2, 1],
+        [0, 0],
+        [2, 0],
+    ];
+    let without = memory_of(&[(0, slot), (2, slot)], &entries);
+    assert_eq!(index.memory(), without);
+    assert_eq!(index.neighbours(0), Ok(vec![]));
+    assert_eq!(index.neighbours(1), refused(NOT_HELD, 0));
+    assert_eq!(index_remove(&memory, 1), Ok(without));
+    assert_eq!(index.add(b"((1,3),2);"), Ok(1));
+    assert_eq!(index.memory(), memory);
+
+    let two = index_of(&["((1,2),3);", "((1,3),2);"]).memory();
+    let longer = [&memory[..], &[255; 9]].concat();
+    assert_eq!(index_remove(&longer, 2), Ok(two));
+    assert_eq!(index.remove(0), Ok(()));
+    assert_eq!(index.numbers().collect::<Vec<_>>(), [1, 2]);
+    assert_eq!(index.neighbours(2), Ok(vec![1]));
+    assert_eq!(index.add(b"(1,2);"), refused(OTHER_LABELS, 5));
+}
+
+/// An index that loses its last tree is the empty one.
+#[test]
+fn emptied() {
+    let mut index = index_of(&["7;"]);
+    for tree in ["(7,(8,9));", "(1,2);", "64;"] {
+        assert_eq!(index.remove(0), Ok(()));
+        assert_eq!(index.memory(), [0; INDEX_BYTES]);
+        assert_eq!(index.remove(0), refused(NOT_HELD, 0));
+        assert_eq!(index.add(tree.as_bytes()), Ok(0));
+    }
+}
+
+#[test]
+fn refused_removals() {
+    let (mut index, memory) = three_trees();
+    for number in [3, 159, 160, 255, 256, 257, 1 << 32, usize::MAX] {
+        assert_eq!(index.remove(number), refused(NOT_HELD, 0), "{number}");
+        assert_eq!(index_remove(&memory, number), refused(NOT_HELD, 0));
+    }
+    assert_eq!(index.memory(), memory);
+    assert_eq!(index_remove(&[1; INDEX_BYTES], 160), refused(NO_INDEX, 0));
 }
 
 /// No byte of a memory can be another alone, where there is an entry.
@@ -236,16 +309,29 @@ fn full_index() {
     for number in [160, 256, usize::MAX] {
         assert_eq!(index.neighbours(number), refused(NOT_HELD, 0));
     }
+    assert_eq!(index.remove(77), Ok(()));
+    assert_eq!(index.add(b"(1,2);"), Ok(77));
+    assert_eq!(index.add(b"(1,2);"), refused(TOO_MANY_TREES, 0));
 }
 
 #[test]
 fn index_sheets() {
-    let (_, memory) = three_trees();
-    let bytes: String = memory.iter().map(|byte| format!("{byte:02x}")).collect();
+    let (mut index, memory) = three_trees();
     let lines =
         "trees 3 pairs 2\ntree 0 neighbours 1\ntree 1 neighbours 0 2\ntree 2 neighbours 1\n";
+    index.remove(0).unwrap();
+    let [all, others] = [memory, index.memory()]
+        .map(|bytes| bytes.iter().map(|x| format!("{x:02x}")).collect::<String>());
     let sheet = index_sheet(b"((1,2),3);\n(2,(3,1));\n(3,(2,1));\n");
-    assert_eq!(sheet, format!("{lines}memory {bytes}\n").as_bytes());
+    assert_eq!(
+        sheet,
+        format!("{lines}memory {all}\nwithout 0 {others}\n").as_bytes()
+    );
+    let zeros = "00".repeat(INDEX_BYTES);
+    assert_eq!(
+        index_sheet(b""),
+        format!("trees 0 pairs 0\nmemory {zeros}\n").as_bytes()
+    );
     assert_eq!(index_sheet(b"(1,2);[&U]7;"), b"refused 10 at 11\n");
     assert_eq!(index_sheet(b"(1,2);\n3;"), b"refused 5 at 8\n");
 }

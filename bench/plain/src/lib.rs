@@ -262,6 +262,14 @@ pub fn index_neighbours(memory: &[u8], number: usize) -> Result<Vec<u16>, Refusa
     Index::of_memory(memory)?.neighbours(number)
 }
 
+/// Takes the tree with this number out of the index that has this memory. Gives
+/// the memory without it.
+pub fn index_remove(memory: &[u8], number: usize) -> Result<Vec<u8>, Refusal> {
+    let mut index = Index::of_memory(memory)?;
+    index.remove(number)?;
+    Ok(index.memory())
+}
+
 /// The support of a table as text: the numbers of trees and clades, a line for
 /// each clade with its number in base 16 and how many trees have it, and the
 /// majority tree if there is one.
@@ -312,7 +320,8 @@ fn write_row_sheet(text: &[u8], out: &mut Vec<u8>) -> std::io::Result<()> {
 
 /// The index of a table of rooted trees, added one after another, as text: the
 /// numbers of trees and pairs, a line with the neighbours of each tree, and the
-/// memory, its bytes in base 16.
+/// memory, its bytes in base 16; then, if there are trees, the memory without the
+/// first.
 pub fn index_sheet(text: &[u8]) -> Vec<u8> {
     let mut out = Vec::new();
     write_index_sheet(text, &mut out).expect("writing to a vector does not fail");
@@ -320,7 +329,7 @@ pub fn index_sheet(text: &[u8]) -> Vec<u8> {
 }
 
 fn write_index_sheet(text: &[u8], out: &mut Vec<u8>) -> std::io::Result<()> {
-    let index = match index_of_table(text) {
+    let mut index = match index_of_table(text) {
         Ok(index) => index,
         Err(refusal) => return write_refusal(refusal, out),
     };
@@ -337,7 +346,15 @@ fn write_index_sheet(text: &[u8], out: &mut Vec<u8>) -> std::io::Result<()> {
         }
         writeln!(out)?;
     }
-    write!(out, "memory ")?;
+    write_memory("memory", &index, out)?;
+    if index.remove(0).is_ok() {
+        write_memory("without 0", &index, out)?;
+    }
+    Ok(())
+}
+
+fn write_memory(name: &str, index: &Index, out: &mut Vec<u8>) -> std::io::Result<()> {
+    write!(out, "{name} ")?;
     for byte in index.memory() {
         write!(out, "{byte:02x}")?;
     }

@@ -2,9 +2,9 @@
 //! `--interchanges`, the graph of interchanges; with `--islands`, the islands,
 //! in which copies are merged; with `--support`, how many trees have each clade
 //! and the majority tree; with `--rows`, the pairs that the pair test on every
-//! two rows finds; with `--index`, the neighbours of each tree in an index, and
-//! its memory. `--rows --repeat N` and `--index --repeat N` print the shortest
-//! times of N rounds in place of that.
+//! two rows finds; with `--index`, the neighbours of each tree in an index, its
+//! memory, and the memory without the first tree. `--rows --repeat N` and
+//! `--index --repeat N` print the shortest times of N rounds in place of that.
 
 use std::hint::black_box;
 use std::io::{self, Read, Write};
@@ -75,7 +75,8 @@ fn shortest(rounds: usize, calls: usize, call: impl Fn(usize) -> bool) -> f64 {
 
 /// Prints microseconds, of the index of a table: of a question, over all trees;
 /// of reading the memory; of adding the last tree to the others; of adding all
-/// trees, one after another, from none on; and of the table's graph.
+/// trees, one after another, from none on; of removing the first tree from all;
+/// and of the table's graph.
 fn index_times(text: &[u8], rounds: usize) -> io::Result<()> {
     let trees: Vec<&[u8]> = plain::each_tree(text).collect();
     let (last, others) = trees.split_last().expect("a tree or more");
@@ -90,12 +91,15 @@ fn index_times(text: &[u8], rounds: usize) -> io::Result<()> {
     add_each(&mut all_but_one, others);
     let add = shortest_from(rounds, &all_but_one, |index| add_each(index, &[last]));
     let add_all = shortest_from(rounds, &Index::default(), |index| add_each(index, &trees));
+    let remove = shortest_from(rounds, &all, |index| {
+        index.remove(numbers[0]).expect("a number that is held")
+    });
     let graph = shortest(rounds, 1, |_| {
         black_box(plain::graph_with_copies(text)).is_ok()
     });
     writeln!(
         io::stdout().lock(),
-        "{ask:.3} {read:.3} {add:.3} {add_all:.3} {graph:.3}"
+        "{ask:.3} {read:.3} {add:.3} {add_all:.3} {remove:.3} {graph:.3}"
     )
 }
 

@@ -19,7 +19,7 @@
 //! [`row_pair`] compares two rows.
 //!
 //! Rooted trees that arrive singly are added to an [`Index`], which gives each a number and lists the neighbours of any
-//! of them.
+//! of them. A tree that is removed leaves its number to a later one.
 //!
 //! ```
 //! assert_eq!(norbelath::form(b"(3,(2,1));").unwrap(), b"((1,2),3);");
@@ -52,6 +52,9 @@
 //! assert_eq!(index.add(b"(1,(2,3));"), Ok(1));
 //! assert_eq!(index.add(b"(3,(2,1));"), Ok(2));
 //! assert_eq!(index.neighbours(1).unwrap(), [0, 2]);
+//! assert_eq!(index.remove(0), Ok(()));
+//! assert_eq!(index.neighbours(1).unwrap(), [2]);
+//! assert_eq!(index.add(b"((1,3),2);"), Ok(0));
 //! let table = norbelath::table(b"(2,1); (1,2);").unwrap();
 //! assert_eq!(table.trees().collect::<Vec<_>>(), [b"(1,2);", b"(1,2);"]);
 //! assert_eq!(norbelath::sheet(b"(1,2);"), b"trees 1 pairs 0\ntree 0 neighbours 0 unlinked 0 (1,2);\n");
@@ -63,6 +66,7 @@
 //! let refusal = norbelath::row_pair(&row, &[0b111, 0b011, 0b110]).unwrap_err();
 //! assert_eq!((refusal.number, refusal.text), (norbelath::Refusal::NO_ROW, 1));
 //! assert_eq!(index.neighbours(3).unwrap_err().number, norbelath::Refusal::NOT_HELD);
+//! assert_eq!(index.remove(3).unwrap_err().number, norbelath::Refusal::NOT_HELD);
 //! ```
 
 use std::error::Error;
@@ -100,7 +104,8 @@ pub const SUPPORT_OUT: usize = 309;
 pub const ROW: usize = 64;
 /// The least length of the slice lent to [`row_text_into`].
 pub const ROW_TEXT_OUT: usize = 309;
-/// Bytes of an index, and the least length of the memory lent to [`index_add_into`] and [`index_neighbours_into`].
+/// Bytes of an index, and the least length of the memory lent to [`index_add_into`], [`index_neighbours_into`] and
+/// [`index_remove_into`].
 pub const INDEX_BYTES: usize = 60_640;
 /// The least length of the slice lent to [`index_neighbours_into`] for the list.
 pub const INDEX_LIST: usize = 160;
@@ -245,6 +250,13 @@ extern "C" {
         number: usize,
         list: *mut u16,
         list_len: usize,
+        first: *mut u64,
+        second: *mut u64,
+    ) -> u8;
+    fn norbelath_index_remove(
+        memory: *mut u8,
+        memory_len: usize,
+        number: usize,
         first: *mut u64,
         second: *mut u64,
     ) -> u8;
@@ -442,6 +454,15 @@ pub struct Support {
 /// assert_eq!(index.add(b"(1,2);").unwrap_err().number, Refusal::LABELS_DIFFER);
 /// let stored = index.as_bytes().to_vec();
 /// assert_eq!(Index::from_bytes(&stored), index);
+///
+/// index.remove(0)?;
+/// assert_eq!(index.neighbours(1)?, [2]);
+/// assert_eq!(index.add(b"((2,3),1);")?, 0);
+/// for number in 0..3 {
+///     index.remove(number)?;
+/// }
+/// assert_eq!(index, Index::new());
+/// assert_eq!(index.add(b"(1,2);")?, 0);
 /// # Ok::<(), Refusal>(())
 /// ```
 #[derive(Clone, PartialEq, Eq)]
@@ -483,6 +504,12 @@ impl Index {
         let neighbours = index_neighbours_into(&self.memory, number, &mut list)?;
         list.truncate(neighbours);
         Ok(list)
+    }
+
+    /// Removes the tree with this number, which is free then; the other trees keep theirs. Without its last tree the
+    /// index is the empty one, and takes a tree of any labels next.
+    pub fn remove(&mut self, number: usize) -> Result<(), Refusal> {
+        index_remove_into(&mut self.memory, number)
     }
 }
 
@@ -810,6 +837,18 @@ pub fn index_neighbours_into(
         )
     })?;
     Ok(neighbours)
+}
+
+/// Removes the tree with this number from the index in `memory`, of at least [`INDEX_BYTES`] bytes. They are then those
+/// of the other trees, which keep their numbers; this one is free, and without trees they are zeros.
+///
+/// Refused are, in this order, too short a memory, memory that is that of no set of held trees, and a number that no
+/// held tree has. What lies behind [`INDEX_BYTES`] is neither read nor changed.
+pub fn index_remove_into(memory: &mut [u8], number: usize) -> Result<(), Refusal> {
+    answer(|first, second| unsafe {
+        norbelath_index_remove(memory.as_mut_ptr(), memory.len(), number, first, second)
+    })?;
+    Ok(())
 }
 
 /// Writes what the pair lister prints for a text into `out`, of at least [`SHEET_OUT`] bytes. Gives its length.

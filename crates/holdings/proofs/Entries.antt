@@ -1,19 +1,21 @@
--- The entries of an index: which they are, how many, and how adding a tree changes their list.
+-- The entries of an index: which they are, how many, and how adding or removing a tree changes their list.
 -- Assumes nothing.
-use mathlib.Core.Path.{_≡_, refl, _∙_, subst}
+use mathlib.Core.Path.{_≡_, refl, sym, _∙_, subst}
 use mathlib.Core.Logic.{_↔_, _≢_, _⊎_, inl, inr}
-use mathlib.Core.Bool.{Bool}
+use mathlib.Core.Bool.{Bool, not}
 use mathlib.Core.List.{List, [], _∷_, _++_, List·Memᴰ, List·Memᴰ·not-nil, List·Memᴰ·append-cases, Memᴰ·append-left, Memᴰ·append-right, Memᴰ·map, Memᴰ·of-map, Memᴰ·cast}
 use Prim.Native.Nat.{ℕ, suc, _-_, _≤_, _<_}
 use native.Mathlib.Omega.{arith}
 use native.Mathlib.Decide.{ℕ-discrete}
-use lib.Dec.{T, ltb, ltb→lt}
+use lib.Dec.{T, T-not, not-T, ltb, eqb, ltb→lt}
 use lib.ListN.{length, set, length-append, length-map}
 use lib.Seq.{getD-set-same, getD-set-other}
 use Rattle.meaning.specs.Lists.{NoDup, positions}
-use Rattle.meaning.specs.Sorted.{Sorted, lesser, sortBy}
+use Rattle.meaning.specs.Sorted.{Sorted, lesser, sortBy, keep}
 use Rattle.meaning.specs.Listing.{Pair}
 use Rattle.meaning.proofs.Sorted.{Strict, sort-in, sort-length, sorted-append, sorted-nodup, sorted-same, sort-sorted, sorted-agree, map-sorted, sorted-among}
+use Rattle.meaning.proofs.Logic.{T-eq}
+use Rattle.meaning.proofs.Keep.{keep-iff, keep-sorted}
 use Rattle.meaning.proofs.Positions.{positions-mem, mem-positions, positions-sorted, positions-length}
 use Rattle.holdings.specs.Slots.{Slot, free, slotAt}
 use Rattle.holdings.specs.Entries.{cutsOf, textAt, IsEntry, own, ownFrom, total, twoOf, earlier, entries}
@@ -170,3 +172,26 @@ module _ (hs : List Slot) (x : ℕ) (h : Slot) (inside : x < length hs) where
         from : (d : Pair) → Dec (d .0 ≡ x) → IsEntry hs′ d → List·Memᴰ d (own x h) ⊎ List·Memᴰ d (entries hs)
         from d (yes i) l = inl (Memᴰ·cast (λ j. (i j, d .1)) (mem-own x h (d .1) (rw (i, slot-same) at l)))
         from d (no i) l = inr (entries-mem hs d .1 (rw (slot-other (d .0) i) at l))
+
+-- a number made free: its entries are taken out
+pub entries-removed : (hs : List Slot) (x : ℕ) → x < length hs → entries (set hs x free) ≡ keep (λ e. not (eqb (e .0) x)) (entries hs)
+entries-removed hs x inside = sym (entries-unique (set hs x free) sorted (λ d. (λ m. to d (keep-iff test (entries hs) d .0 m), λ l. from d (ℕ-discrete (d .0) x) l)))
+  where
+    test : Pair → Bool
+    test e = not (eqb (e .0) x)
+
+    other : (d : Pair) → T (test d) → d .0 ≢ x
+    other d t e = T-not (eqb (d .0) x) t (T-eq (d .0) x .1 e)
+
+    sorted : Sorted (earlier (textAt (set hs x free))) (keep test (entries hs))
+    sorted =
+        agree-other hs x free inside (keep test (entries hs)) (λ d m. other d (keep-iff test (entries hs) d .0 m .1))
+        (keep-sorted test (earlier (textAt hs)) (entries hs) (entries-sorted hs))
+
+    to : (d : Pair) → List·Memᴰ d (entries hs) × T (test d) → IsEntry (set hs x free) d
+    to d m = rw (slot-other hs x free inside (d .0) (other d (m .1))) (entries-mem hs d .0 (m .0))
+
+    from : (d : Pair) → Dec (d .0 ≡ x) → IsEntry (set hs x free) d → List·Memᴰ d (keep test (entries hs))
+    from d (yes e) l = let n = rw (e, slot-same hs x free inside) at l in absurd (omega arith)
+    from d (no e) l =
+        keep-iff test (entries hs) d .1 (entries-mem hs d .1 (rw (slot-other hs x free inside (d .0) e) at l), not-T (eqb (d .0) x) (λ t. e (T-eq (d .0) x .0 t)))

@@ -1,12 +1,13 @@
--- Sets of held trees: an addition gives one, and held trees are neighbours exactly when entries of theirs meet.
+-- Sets of held trees: additions and removals give them, and held trees are neighbours exactly when entries of theirs meet.
 -- Assumes nothing.
 use mathlib.Core.Path.{_≡_, refl, sym, ap, _∙_, subst}
-use mathlib.Core.Logic.{_↔_}
+use mathlib.Core.Logic.{_↔_, _≢_}
 use mathlib.Core.List.{List, [], _∷_}
 use Prim.Native.Nat.{ℕ, zero, suc, _≤_, _<_}
 use native.Mathlib.Omega.{arith}
 use native.Mathlib.Decide.{ℕ-discrete}
 use lib.ListN.{length, set, replicate, length-set}
+use lib.Seq.{ext-getD}
 use Rattle.meaning.specs.Limits.{maxTrees}
 use Rattle.meaning.specs.Tree.{Tree, Good, Canonical, SameClade, canon, form}
 use Rattle.meaning.specs.Move.{SharedForest}
@@ -14,7 +15,7 @@ use Rattle.meaning.proofs.Same.{≈-clade, clade-trans}
 use Rattle.meaning.proofs.Canon.{canon-≈, canon-good, canon-canonical, canonical-canon, topology-iff-canon}
 use Rattle.meaning.proofs.Text.{form-iff}
 use Rattle.meaning.proofs.Forests.{apart-iff-shared}
-use Rattle.holdings.specs.Slots.{Slot, free, held, slotAt, HeldTrees, empty, smallestFree, add, trees}
+use Rattle.holdings.specs.Slots.{Slot, free, held, slotAt, HeldTrees, empty, smallestFree, add, remove, trees}
 use Rattle.holdings.specs.Neighbours.{Linked, linked, Meet}
 use Rattle.holdings.proofs.Entries.{slot-same, slot-other}
 
@@ -95,6 +96,38 @@ pub add-held : {hs : List Slot} {t : Tree} → HeldTrees hs → Good t → small
 add-held {hs} {t} H G few a =
     change H (smallestFree hs) few (held (canon t)) (λ u e. subst Good (one-tree refl e) (canon-good G)) (λ u e. subst Canonical (one-tree refl e) (canon-canonical t (G .distinct)))
     (λ u e y v d. subst (λ (w : Tree). SameClade w v) (one-tree refl e) (clade-trans (≈-clade (canon-≈ t)) (let s = a y v d in (s .1, s .0))))
+
+-- a tree removed
+pub remove-held : {hs : List Slot} → HeldTrees hs → (x : ℕ) → x < maxTrees → HeldTrees (remove hs x)
+remove-held H x inside = change H x inside free (λ u d. absurd (not-free refl d)) (λ u d. absurd (not-free refl d)) (λ u d. absurd (not-free refl d))
+
+-- its number is free again, and the others keep their trees
+pub removed-free : (hs : List Slot) (x : ℕ) → x < length hs → slotAt (remove hs x) x ≡ free
+removed-free hs x inside = slot-same hs x free inside
+
+pub removed-others : (hs : List Slot) (x : ℕ) → x < length hs → (y : ℕ) → y ≢ x → slotAt (remove hs x) y ≡ slotAt hs y
+removed-others hs x inside y ne = slot-other hs x free inside y ne
+
+-- what was added last is taken out again
+pub remove-added : (hs : List Slot) (t : Tree) → smallestFree hs < length hs → remove (add hs t) (smallestFree hs) ≡ hs
+remove-added hs t few = ext-getD free (remove (add hs t) x) hs (length-set (add hs t) x free ∙ length-set hs x (held (canon t))) (λ y l. by y (ℕ-discrete y x))
+  where
+    x : ℕ
+    x = smallestFree hs
+
+    within : x < length (add hs t)
+    within = omega (arith, length-set hs x (held (canon t)))
+
+    by : (y : ℕ) → Dec (y ≡ x) → slotAt (remove (add hs t) x) y ≡ slotAt hs y
+    by y (yes e) = ap (slotAt (remove (add hs t) x)) e ∙ slot-same (add hs t) x free within ∙ sym (smallest-free hs) ∙ ap (slotAt hs) (sym e)
+    by y (no n) = slot-other (add hs t) x free within y n ∙ slot-other hs x (held (canon t)) few y n
+
+-- where no tree is left, none is held
+pub none-left : (hs : List Slot) → trees hs ≡ [] → hs ≡ replicate (length hs) free
+unfolding trees
+none-left [] e = refl
+none-left (free ∷ hs) e = ap (_∷_ free) (none-left hs e)
+none-left (held t ∷ hs) e = absurd (let z : _≡_ {A = ℕ} 0 1 = cc in omega arith)
 
 module _ {hs : List Slot} (H : HeldTrees hs) where
   -- canonical trees of one topology are one tree

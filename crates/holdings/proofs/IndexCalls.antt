@@ -1,4 +1,4 @@
--- The calls on an index: what adding accepts, one outcome for each input, and that used memory is that of the trees that were added.
+-- The calls on an index: what each accepts, one outcome for each input, and what is left in memory.
 -- Assumes nothing.
 use mathlib.Core.Path.{_≡_, refl, sym, ap, _∙_, subst}
 use mathlib.Core.Bool.{Bool, true, false, cond}
@@ -7,16 +7,14 @@ use Prim.Native.Nat.{ℕ, zero, suc, _-_, _≤_, _<_}
 use native.Mathlib.Omega.{arith}
 use borrow.Author.Tests.{eq-eqb}
 use lib.Dec.{eqb}
-use lib.ListN.{length, drop, length-map}
+use lib.ListN.{length, drop}
 use lib.Seq.{take-at}
 use Rattle.meaning.specs.Limits.{maxTrees}
-use Rattle.meaning.specs.Tree.{Tree, Good, SameClade, canon}
+use Rattle.meaning.specs.Tree.{Tree, Good, SameClade}
 use Rattle.meaning.specs.Kind.{Kinded, rooted, either, rooted-only}
 use Rattle.meaning.specs.Reading.{Read, got, refused, readTree, likeFirst}
-use Rattle.meaning.specs.Copies.{kept-apart}
-use Rattle.meaning.specs.Listing.{Pair}
-use Rattle.meaning.specs.Answer.{Answer, accepted, refusal, Outcome, GraphSize, FirstsMemory, written, textOf, onward, conclude}
-use Rattle.meaning.specs.Calls.{enough, firstsRead, firstsGraphOf, ChoosingCall}
+use Rattle.meaning.specs.Answer.{Answer, accepted, refusal, Outcome, written, textOf, onward, conclude}
+use Rattle.meaning.specs.Calls.{enough}
 use Rattle.meaning.proofs.Logic.{clash}
 use Rattle.meaning.proofs.Lists.{among}
 use Rattle.meaning.proofs.Same.{clade-trans}
@@ -25,16 +23,15 @@ use Rattle.meaning.proofs.Alike.{unlike-iff, first-line}
 use Rattle.meaning.proofs.Sound.{read-good, read-behind}
 use Rattle.meaning.proofs.Places.{placed-among, read-refused}
 use Rattle.meaning.proofs.Calls.{Tells, accepts, denies, tells-accepted, tells-refusal, lent-tells, limited-tells, onward-tells, Line, at-zero, read-line}
-use Rattle.meaning.proofs.Lent.{ample}
 use Rattle.meaning.proofs.Determined.{same-accepted, not-both, same-refusal}
-use Rattle.holdings.specs.Slots.{Slot, free, held, slotAt, HeldTrees, smallestFree, add, trees, numberAt}
-use Rattle.holdings.specs.Neighbours.{Neighbours, partners}
+use Rattle.holdings.specs.Slots.{Slot, free, held, slotAt, HeldTrees, smallestFree, add, remove, trees}
+use Rattle.holdings.specs.Neighbours.{Neighbours}
 use Rattle.holdings.specs.Memory.{indexBytes, encode, IsIndex}
-use Rattle.holdings.specs.IndexCalls.{Opened, closed, opens, foreign, addSlices, addFirst, table, fitting, joined, addRead, addTo, AddCall, adds, having, askSlices, askFirst, askRead, AskCall, Used, fresh, added, unchanged}
-use Rattle.holdings.specs.IndexRefusals.{addRefusals, askRefusals}
-use Rattle.holdings.proofs.HeldTrees.{smallest-le, first-held, empty-held, add-held}
-use Rattle.holdings.proofs.Memory.{encode-length, one-index, encode-empty}
-use Rattle.holdings.proofs.NeighbourLists.{neighbours-unique, at-place, index-lists}
+use Rattle.holdings.specs.IndexCalls.{Opened, closed, opens, foreign, indexSlices, addFirst, table, fitting, joined, addRead, addTo, AddCall, adds, having, askSlices, askFirst, numberRead, AskCall, removeFirst, removeFrom, RemoveCall, removes}
+use Rattle.holdings.specs.IndexRefusals.{addRefusals, numberRefusals}
+use Rattle.holdings.proofs.HeldTrees.{held-inside, smallest-le, first-held, add-held, remove-held}
+use Rattle.holdings.proofs.Memory.{encode-length, one-index}
+use Rattle.holdings.proofs.NeighbourLists.{neighbours-unique}
 
 -- ---- what adding accepts
 -- t was read from s, is rooted, has the labels of the held trees, and a number is free
@@ -106,21 +103,26 @@ add-tells s memory a A =
     (λ hs I. onward-tells {P′ = Joins hs s} (λ t. accepted (hs, t)) (joined-tells (I .trees) s) (λ t J. accepts (record { index = I; joins = J })))
   where
     first : Tells (λ (_ : Unit {0}). Unit {0}) (Line addRefusals s) (addFirst s memory)
-    first = lent-tells (enough (addSlices memory)) (at-zero tt) (limited-tells 0 s (at-zero tt) (accepts tt))
+    first = lent-tells (enough (indexSlices memory)) (at-zero tt) (limited-tells 0 s (at-zero tt) (accepts tt))
 
 -- memory is that of the set, and a tree has the number
 abbrev pub Asks : List ℕ → ℕ → List Slot → Type 0
 Asks memory x hs = IsIndex hs memory × ((t : Tree) × (slotAt hs x ≡ held t))
 
-pub ask-tells : (x : ℕ) (memory list : List ℕ) (a : Answer (List Slot)) → Opened (askFirst memory list) memory a → Tells (Asks memory x) (Line askRefusals []) (askRead x a)
-ask-tells x memory list a A = onward-tells {P′ = λ hs. IsIndex hs memory} (λ hs. having hs (slotAt hs x)) (opened-tells [] first (at-zero tt) A) (λ hs I. by hs I (slotAt hs x) refl)
+-- what is read where a number has to have a tree
+number-tells : (x : ℕ) {first : Answer (Unit {0})} {memory : List ℕ} (a : Answer (List Slot)) → Tells (λ (_ : Unit {0}). Unit {0}) (Line numberRefusals []) first
+    → Opened first memory a → Tells (Asks memory x) (Line numberRefusals []) (numberRead x a)
+number-tells x {memory} a first A = onward-tells {P′ = λ hs. IsIndex hs memory} (λ hs. having hs (slotAt hs x)) (opened-tells [] first (at-zero tt) A) (λ hs I. by hs I (slotAt hs x) refl)
   where
-    first : Tells (λ (_ : Unit {0}). Unit {0}) (Line askRefusals []) (askFirst memory list)
-    first = lent-tells (enough (askSlices memory list)) (at-zero tt) (accepts tt)
-
-    by : (hs : List Slot) → IsIndex hs memory → (h : Slot) → slotAt hs x ≡ h → Tells (Asks memory x) (Line askRefusals []) (having hs h)
+    by : (hs : List Slot) → IsIndex hs memory → (h : Slot) → slotAt hs x ≡ h → Tells (Asks memory x) (Line numberRefusals []) (having hs h)
     by hs I free e = denies (at-zero tt)
     by hs I (held t) e = accepts (I, (t, e))
+
+pub ask-tells : (x : ℕ) (memory list : List ℕ) (a : Answer (List Slot)) → Opened (askFirst memory list) memory a → Tells (Asks memory x) (Line numberRefusals []) (numberRead x a)
+ask-tells x memory list a A = number-tells x a (lent-tells (enough (askSlices memory list)) (at-zero tt) (accepts tt)) A
+
+pub remove-tells : (x : ℕ) (memory : List ℕ) (a : Answer (List Slot)) → Opened (removeFirst memory) memory a → Tells (Asks memory x) (Line numberRefusals []) (numberRead x a)
+remove-tells x memory a A = number-tells x a (lent-tells (enough (indexSlices memory)) (at-zero tt) (accepts tt)) A
 
 -- ---- each call has one outcome
 -- memory is opened in one way
@@ -140,10 +142,13 @@ add-determined {s} {memory} (adds a A) (adds b B) = ap (λ (c : Answer (List Slo
 
 pub ask-determined : {x : ℕ} {memory list : List ℕ} {o o′ : Outcome ℕ (List ℕ)} → AskCall x memory list o → AskCall x memory list o′ → o ≡ o′
 ask-determined {x} {list} (AskCall.lists hs ys a A e N) (AskCall.lists ks zs b B d M) =
-    ap (λ (l : List ℕ). textOf l list) (neighbours-unique N (subst (λ (l : List Slot). Neighbours l x zs) (same-accepted d (ap (askRead x) (opened-one B A) ∙ e)) M))
-ask-determined {x} (AskCall.lists hs ys a A e N) (AskCall.refuses n i p b B d) = absurd (not-both e (ap (askRead x) (opened-one A B) ∙ d))
-ask-determined {x} (AskCall.refuses n i p b B d) (AskCall.lists hs ys a A e N) = absurd (not-both e (ap (askRead x) (opened-one A B) ∙ d))
-ask-determined {x} (AskCall.refuses n i p a A e) (AskCall.refuses m j q b B d) = let (u, v, w) = same-refusal e (ap (askRead x) (opened-one A B) ∙ d) in cc
+    ap (λ (l : List ℕ). textOf l list) (neighbours-unique N (subst (λ (l : List Slot). Neighbours l x zs) (same-accepted d (ap (numberRead x) (opened-one B A) ∙ e)) M))
+ask-determined {x} (AskCall.lists hs ys a A e N) (AskCall.refuses n i p b B d) = absurd (not-both e (ap (numberRead x) (opened-one A B) ∙ d))
+ask-determined {x} (AskCall.refuses n i p b B d) (AskCall.lists hs ys a A e N) = absurd (not-both e (ap (numberRead x) (opened-one A B) ∙ d))
+ask-determined {x} (AskCall.refuses n i p a A e) (AskCall.refuses m j q b B d) = let (u, v, w) = same-refusal e (ap (numberRead x) (opened-one A B) ∙ d) in cc
+
+pub remove-determined : {x : ℕ} {memory : List ℕ} {o o′ : Outcome (Unit {0}) (List ℕ)} → RemoveCall x memory o → RemoveCall x memory o′ → o ≡ o′
+remove-determined {x} {memory} (removes a A) (removes b B) = ap (λ (c : Answer (List Slot)). conclude (numberRead x c) memory (removeFrom x memory)) (opened-one A B)
 
 -- ---- memory
 -- an index written over memory is read there
@@ -155,6 +160,7 @@ pub record Grown (hs : List Slot) (s memory : List ℕ) (o : Outcome ℕ (List �
   pub tree : Tree
   pub joins : Joins hs s tree
   pub number : o .answer ≡ accepted (smallestFree hs)
+  pub leaves : o .memory ≡ written (encode (add hs tree)) memory
   pub index : IsIndex (add hs tree) (o .memory)
 
 add-inside : {hs : List Slot} {memory : List ℕ} (I : IsIndex hs memory) (s : List ℕ) (r : Answer ((ks : List Slot) × Tree)) → Tells (Adds memory s) (Line addRefusals s) r
@@ -164,7 +170,7 @@ add-inside {hs} {memory} I s (accepted (ks, u)) t n e =
     let A : Adds memory s (ks, u) = tells-accepted t refl in
     let same : ks ≡ hs = one-index (A .index) I in
     subst (λ (l : List Slot). Grown l s memory (addTo memory (ks, u))) same
-    (record { tree = u; joins = A .joins; number = refl; index = index-written memory (add-held (A .index .trees) (A .joins .good) (A .joins .room) (A .joins .alike)) })
+    (record { tree = u; joins = A .joins; number = refl; leaves = refl; index = index-written memory (add-held (A .index .trees) (A .joins .good) (A .joins .room) (A .joins .alike)) })
 
 pub add-grows : {hs : List Slot} {s memory : List ℕ} {o : Outcome ℕ (List ℕ)} {n : ℕ} → IsIndex hs memory → AddCall s memory o → o .answer ≡ accepted n → Grown hs s memory o
 add-grows {s} {memory} {n} I (adds a A) e = add-inside I s (addRead s a) (add-tells s memory a A) n e
@@ -177,49 +183,28 @@ add-refused {s} {memory} {n} {i} {p} (adds a A) e = by (addRead s a) e
     by (accepted q) e = clash cc
     by (refusal m j q) e = refl
 
--- used memory is that of the trees that were added
-pub used-index : {hs : List Slot} {memory : List ℕ} → Used hs memory → IsIndex hs memory
-used-index (fresh memory e) = record { trees = empty-held; bytes = e ∙ sym encode-empty }
-used-index (added {hs} {o} w c e r) =
-    let g = add-grows (used-index w) c e in
-    let same = got-same (sym (g .joins .read) ∙ r) in
-    subst (λ (t : Tree). IsIndex (add hs t) (o .memory)) (sym (g .joins .tree) ∙ ap (λ (x : Kinded). x .tree) same) (g .index)
+-- an accepted removal from memory that is an index leaves that of the smaller set
+pub record Shrunk (hs : List Slot) (x : ℕ) (o : Outcome (Unit {0}) (List ℕ)) : Type 0 where
+  pub tree : Tree
+  pub held-there : slotAt hs x ≡ held tree
+  pub index : IsIndex (remove hs x) (o .memory)
+
+remove-inside : {hs : List Slot} {memory : List ℕ} (I : IsIndex hs memory) (x : ℕ) (r : Answer (List Slot)) → Tells (Asks memory x) (Line numberRefusals []) r
+    → conclude r memory (removeFrom x memory) .answer ≡ accepted tt → Shrunk hs x (conclude r memory (removeFrom x memory))
+remove-inside I x (refusal m i p) t e = clash cc
+remove-inside {memory} I x (accepted ks) t e =
+    let (J, (u, d)) = tells-accepted t refl in
+    let same : ks ≡ _ = one-index J I in
+    subst (λ (l : List Slot). Shrunk l x (removeFrom x memory ks)) same
+    (record { tree = u; held-there = d; index = index-written memory (remove-held (J .trees) x (omega (arith, held-inside ks x d, J .trees .many))) })
+
+pub remove-shrinks : {hs : List Slot} {x : ℕ} {memory : List ℕ} {o : Outcome (Unit {0}) (List ℕ)} → IsIndex hs memory → RemoveCall x memory o → o .answer ≡ accepted tt → Shrunk hs x o
+remove-shrinks {x} {memory} I (removes a A) e = remove-inside I x (numberRead x a) (remove-tells x memory a A) e
+
+-- a refusal leaves memory as it was
+pub remove-refused : {x : ℕ} {memory : List ℕ} {o : Outcome (Unit {0}) (List ℕ)} {n i p : ℕ} → RemoveCall x memory o → o .answer ≡ refusal n i p → o .memory ≡ memory
+remove-refused {x} {memory} {n} {i} {p} (removes a A) e = by (numberRead x a) e
   where
-    got-same : {x y : Kinded} {p q : ℕ} → got x p ≡ got y q → x ≡ y
-    got-same e = cc
-used-index (unchanged {hs} w c e) = subst (IsIndex hs) (sym (add-refused c e)) (used-index w)
-
--- ---- the statement of the ticket
--- what an accepted question gives
-asked : {hs : List Slot} {memory list : List ℕ} {x : ℕ} {t : Tree} {o : Outcome ℕ (List ℕ)} → IsIndex hs memory → indexBytes ≤ length memory → maxTrees ≤ length list → slotAt hs x ≡ held t
-    → AskCall x memory list o → (ys : List ℕ) × Neighbours hs x ys × (o ≡ textOf ys list)
-asked {hs} {memory} {list} {x} I long room e c = by c
-  where
-    opened : Opened (askFirst memory list) memory (accepted hs)
-    opened = opens hs (ample (askSlices memory list) (accepted tt) (long, room)) I
-
-    by : {o : Outcome ℕ (List ℕ)} → AskCall x memory list o → (ys : List ℕ) × Neighbours hs x ys × (o ≡ textOf ys list)
-    by (AskCall.lists ks ys a A d N) = (ys, subst (λ (l : List Slot). Neighbours l x ys) (same-accepted d (ap (askRead x) (opened-one A opened) ∙ ap (having hs) e)) N, refl)
-    by (AskCall.refuses n i p a A d) = absurd (not-both (ap (having hs) e) (ap (askRead x) (opened-one opened A) ∙ d))
-
--- what the graph call wrote for a text of the held trees, and that asking gives the same
-pub record Plain (hs : List Slot) (memory : List ℕ) (ts : List Tree) (graph : FirstsMemory) (g : Outcome GraphSize FirstsMemory) : Type 0 where
-  pub pairs : List Pair
-  pub gives : g ≡ firstsGraphOf ts pairs graph
-  pub lists : (i : ℕ) (list : List ℕ) (o : Outcome ℕ (List ℕ)) → i < length ts → maxTrees ≤ length list → AskCall (numberAt hs i) memory list o
-      → o ≡ textOf (map (numberAt hs) (partners (length ts) pairs i)) list
-
--- after any run of additions each list is what the graph call with copies kept apart gives for the same trees in order of number
-pub used-lists : {hs : List Slot} {memory : List ℕ} {ts : List Tree} (s : List ℕ) (graph : FirstsMemory) {g : Outcome GraphSize FirstsMemory} → Used hs memory → indexBytes ≤ length memory
-    → firstsRead s graph ≡ accepted (record { kind = rooted; trees = ts }) → map canon ts ≡ trees hs → ChoosingCall kept-apart s graph g → Plain hs memory ts graph g
-used-lists {hs} {memory} {ts} s graph w long e c G =
-    let I = used-index w in
-    let same = index-lists s graph (I .trees) e c G in
-    let n : length ts ≡ length (trees hs) = sym (length-map ts canon) ∙ ap length c in
-    record {
-      pairs = same .pairs;
-      gives = same .gives;
-      lists = λ i list o h room q.
-          let (ys, N, d) = asked I long room (at-place (I .trees) i (omega arith)) q in
-          d ∙ ap (λ (zs : List ℕ). textOf zs list) (same .lists i h ys N);
-    }
+    by : (r : Answer (List Slot)) → conclude r memory (removeFrom x memory) .answer ≡ refusal n i p → conclude r memory (removeFrom x memory) .memory ≡ memory
+    by (accepted q) e = clash cc
+    by (refusal m j q) e = refl

@@ -19,12 +19,12 @@ use Rattle.meaning.proofs.Determined.{not-both, same-refusal}
 use Rattle.meaning.proofs.Lent.{Short, seven, ample, eight, in-limit}
 use Rattle.holdings.specs.Slots.{Slot, free, held, slotAt, smallestFree, trees}
 use Rattle.holdings.specs.Memory.{indexBytes, IsIndex, Valid}
-use Rattle.holdings.specs.IndexCalls.{Opened, closed, opens, foreign, addSlices, addFirst, table, fitting, joined, addRead, addTo, AddCall, adds, having, askSlices, askFirst, askRead, AskCall}
+use Rattle.holdings.specs.IndexCalls.{Opened, closed, opens, foreign, indexSlices, addFirst, table, fitting, joined, addRead, addTo, AddCall, adds, having, askSlices, askFirst, numberRead, AskCall, removeFirst, removeFrom, RemoveCall, removes}
 use Rattle.holdings.proofs.HeldTrees.{first-held}
 use Rattle.holdings.proofs.IndexCalls.{opened-one}
 
 -- the outcome is a refusal by line n at the place p, and nothing is changed
-abbrev Refused : List ℕ → Outcome ℕ (List ℕ) → ℕ → ℕ → Type 0
+abbrev Refused : {A : Type 0} → List ℕ → Outcome A (List ℕ) → ℕ → ℕ → Type 0
 Refused memory o n p = o ≡ record { answer = refusal n 0 p; memory = memory }
 
 -- ---- adding
@@ -42,23 +42,23 @@ refuse-add {memory} f (adds a A) = ap (λ (r : Answer ((hs : List Slot) × Tree)
 module _ (s memory : List ℕ) {o : Outcome ℕ (List ℕ)} where
   -- 7 first
   pub add-seven : length memory < indexBytes → AddCall s memory o → Refused memory o 7 0
-  add-seven h = refuse-add (λ a A. ap (addRead s) (closed-one (seven (addSlices memory) _ h) A))
+  add-seven h = refuse-add (λ a A. ap (addRead s) (closed-one (seven (indexSlices memory) _ h) A))
 
   module _ (long : indexBytes ≤ length memory) where
     -- then 8
     pub add-eight : textBytes < length s → AddCall s memory o → Refused memory o 8 0
-    add-eight h = refuse-add (λ a A. ap (addRead s) (closed-one (ample (addSlices memory) _ long ∙ eight 0 s _ h) A))
+    add-eight h = refuse-add (λ a A. ap (addRead s) (closed-one (ample (indexSlices memory) _ long ∙ eight 0 s _ h) A))
 
     module _ (short : length s ≤ textBytes) where
       -- then 12
       pub add-twelve : ¬ Valid memory → AddCall s memory o → Refused memory o 12 0
-      add-twelve n = refuse-add (λ a A. ap (addRead s) (foreign-one (ample (addSlices memory) _ long ∙ in-limit 0 s _ short) n A))
+      add-twelve n = refuse-add (λ a A. ap (addRead s) (foreign-one (ample (indexSlices memory) _ long ∙ in-limit 0 s _ short) n A))
 
       module _ {hs : List Slot} (I : IsIndex hs memory) where
         by-joined : {n p : ℕ} → joined hs (readTree either s) ≡ refusal n 0 p → AddCall s memory o → Refused memory o n p
         by-joined e =
             refuse-add (λ a A.
-            ap (addRead s) (opened-one A (opens hs (ample (addSlices memory) _ long ∙ in-limit 0 s _ short) I))
+            ap (addRead s) (opened-one A (opens hs (ample (indexSlices memory) _ long ∙ in-limit 0 s _ short) I))
             ∙ ap (λ (b : Answer Tree). onward b λ t. accepted (hs, t)) e)
 
         -- then the text's
@@ -96,20 +96,39 @@ module _ (s memory : List ℕ) {o : Outcome ℕ (List ℕ)} where
 
 -- ---- asking
 refuse-ask : {x : ℕ} {memory list : List ℕ} {o : Outcome ℕ (List ℕ)} {n : ℕ}
-    → ((a : Answer (List Slot)) → Opened (askFirst memory list) memory a → askRead x a ≡ refusal n 0 0) → AskCall x memory list o → Refused list o n 0
+    → ((a : Answer (List Slot)) → Opened (askFirst memory list) memory a → numberRead x a ≡ refusal n 0 0) → AskCall x memory list o → Refused list o n 0
 refuse-ask f (AskCall.lists hs ys a A e N) = absurd (not-both e (f a A))
 refuse-ask f (AskCall.refuses m i p a A e) = let (u, v, w) = same-refusal e (f a A) in cc
 
 module _ (x : ℕ) (memory list : List ℕ) {o : Outcome ℕ (List ℕ)} where
   -- 7 first
   pub ask-seven : Short (askSlices memory list) → AskCall x memory list o → Refused list o 7 0
-  ask-seven h = refuse-ask (λ a A. ap (askRead x) (closed-one (seven (askSlices memory list) _ h) A))
+  ask-seven h = refuse-ask (λ a A. ap (numberRead x) (closed-one (seven (askSlices memory list) _ h) A))
 
   module _ (long : indexBytes ≤ length memory) (room : maxTrees ≤ length list) where
     -- then 12
     pub ask-twelve : ¬ Valid memory → AskCall x memory list o → Refused list o 12 0
-    ask-twelve n = refuse-ask (λ a A. ap (askRead x) (foreign-one (ample (askSlices memory list) _ (long, room)) n A))
+    ask-twelve n = refuse-ask (λ a A. ap (numberRead x) (foreign-one (ample (askSlices memory list) _ (long, room)) n A))
 
     -- then 13
     pub ask-thirteen : {hs : List Slot} → IsIndex hs memory → slotAt hs x ≡ free → AskCall x memory list o → Refused list o 13 0
-    ask-thirteen {hs} I e = refuse-ask (λ a A. ap (askRead x) (opened-one A (opens hs (ample (askSlices memory list) _ (long, room)) I)) ∙ ap (having hs) e)
+    ask-thirteen {hs} I e = refuse-ask (λ a A. ap (numberRead x) (opened-one A (opens hs (ample (askSlices memory list) _ (long, room)) I)) ∙ ap (having hs) e)
+
+-- ---- removing
+refuse-remove : {x : ℕ} {memory : List ℕ} {o : Outcome (Unit {0}) (List ℕ)} {n : ℕ}
+    → ((a : Answer (List Slot)) → Opened (removeFirst memory) memory a → numberRead x a ≡ refusal n 0 0) → RemoveCall x memory o → Refused memory o n 0
+refuse-remove {x} {memory} f (removes a A) = ap (λ (r : Answer (List Slot)). conclude r memory (removeFrom x memory)) (f a A)
+
+module _ (x : ℕ) (memory : List ℕ) {o : Outcome (Unit {0}) (List ℕ)} where
+  -- 7 first
+  pub remove-seven : length memory < indexBytes → RemoveCall x memory o → Refused memory o 7 0
+  remove-seven h = refuse-remove (λ a A. ap (numberRead x) (closed-one (seven (indexSlices memory) _ h) A))
+
+  module _ (long : indexBytes ≤ length memory) where
+    -- then 12
+    pub remove-twelve : ¬ Valid memory → RemoveCall x memory o → Refused memory o 12 0
+    remove-twelve n = refuse-remove (λ a A. ap (numberRead x) (foreign-one (ample (indexSlices memory) _ long) n A))
+
+    -- then 13
+    pub remove-thirteen : {hs : List Slot} → IsIndex hs memory → slotAt hs x ≡ free → RemoveCall x memory o → Refused memory o 13 0
+    remove-thirteen {hs} I e = refuse-remove (λ a A. ap (numberRead x) (opened-one A (opens hs (ample (indexSlices memory) _ long) I)) ∙ ap (having hs) e)

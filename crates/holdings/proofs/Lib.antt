@@ -6,4 +6,6 @@ pub mod IndexCalls
 pub mod IndexRefusals
 pub mod Memory
 pub mod NeighbourLists
+pub mod Running
+pub mod Samples
 pub mod SlotBytes

@@ -102,17 +102,17 @@ module _ {hs : List Slot} {memory : List ℕ} (C : Checked hs memory) where
       bytes = take-add entriesAt entryBytes memory ∙ ap₂ _++_ front back
 
 -- what lies behind the entries
-abbrev behind : List Pair → List ℕ → List ℕ
+abbrev pub behind : List Pair → List ℕ → List ℕ
 behind es memory = replicate (entryBytes - 2 * length es) 0 ++ drop indexBytes memory
 
 -- memory that has slots and entries behind them
 module _ {hs : List Slot} (H : HeldTrees hs) (es : List Pair) (memory : List ℕ) (bytes : take indexBytes memory ≡ laid hs es) where
-  parts : memory ≡ slotsBytes hs ++ (flat es ++ behind es memory)
+  pub laid-parts : memory ≡ slotsBytes hs ++ (flat es ++ behind es memory)
   unfolding laid
-  parts = sym (take-append-drop indexBytes memory) ∙ ap (λ (l : List ℕ). l ++ drop indexBytes memory) bytes ∙ simp append-assoc
+  laid-parts = sym (take-append-drop indexBytes memory) ∙ ap (λ (l : List ℕ). l ++ drop indexBytes memory) bytes ∙ simp append-assoc
 
   at-back : (k : ℕ) → getD memory (entriesAt + k) 0 ≡ getD (flat es ++ behind es memory) k 0
-  at-back k = ap (λ (l : List ℕ). getD l (entriesAt + k) 0) parts ∙ at-behind (slotsBytes hs) (flat es ++ behind es memory) entriesAt k (slots-size H)
+  at-back k = ap (λ (l : List ℕ). getD l (entriesAt + k) 0) laid-parts ∙ at-behind (slotsBytes hs) (flat es ++ behind es memory) entriesAt k (slots-size H)
 
   -- entry k stands there
   pub entry-laid : (k : ℕ) (d : Pair) → k < length es → entryIn memory k ≡ getD es k d
@@ -122,7 +122,7 @@ module _ {hs : List Slot} (H : HeldTrees hs) (es : List Pair) (memory : List ℕ
 
   -- and so do the slots
   pub laid-shelved : indexBytes ≤ length memory → Shelved hs memory
-  laid-shelved long = record { long = long; trees = H; stand = λ x h. rw parts (slots-part hs (flat es ++ behind es memory) x (omega (arith, H .many))) }
+  laid-shelved long = record { long = long; trees = H; stand = λ x h. rw laid-parts (slots-part hs (flat es ++ behind es memory) x (omega (arith, H .many))) }
 
   -- the entries are in order there
   pub laid-ranked : Sorted (earlier (textAt hs)) es → ((e : Pair) → List·Memᴰ e es → IsEntry hs e) → Ranked hs memory (length es)

@@ -2,18 +2,20 @@
 -- Assumes nothing.
 use mathlib.Core.Path.{_≡_, refl, sym, ap, ap₂, _∙_, subst}
 use mathlib.Core.List.{List, [], _∷_, _++_, append-assoc}
-use Prim.Native.Nat.{ℕ, zero, suc, _+_, _*_, _≤_, _<_}
+use Prim.Native.Nat.{ℕ, zero, suc, _+_, _*_, _-_, _≤_, _<_}
 use native.Mathlib.Omega.{arith}
-use lib.ListN.{length, take, drop, getD, replicate, length-append}
-use lib.Seq.{length-sets, take-add, take-at, drop-at, drop-drop}
+use lib.ListN.{length, take, drop, getD, set, replicate, length-append}
+use lib.Seq.{sets, length-sets, take-add, take-at, drop-at, drop-drop, split-at, set-split, length-take-le}
 use Rattle.meaning.specs.Limits.{maxNodes}
 use Rattle.meaning.specs.Tree.{Tree, leaf, tip, Good}
+use Rattle.meaning.specs.Listing.{Pair, flat}
 use Rattle.meaning.proofs.Length.{leaves-64}
+use Rattle.lent.proofs.Runs.{over-run}
 use Rattle.held.specs.Held.{Holds, pre, hold}
 use Rattle.held.proofs.Laws.{few-nodes, holding, leafed, unique}
 use Rattle.holdings.specs.Slots.{Slot, free, held, slotAt}
 use Rattle.holdings.specs.Entries.{cutsOf, total}
-use Rattle.holdings.specs.Memory.{slotBytes, slotsBytes, slotIn}
+use Rattle.holdings.specs.Memory.{entryBytes, slotBytes, slotsBytes, laid, slotIn}
 use Rattle.holdings.proofs.Bytes.{cut-same}
 
 -- its first byte is no 0
@@ -79,3 +81,21 @@ slots-part (h ∷ hs) m zero l = rw append-assoc (take-at (slotBytes h) (slotsBy
 slots-part (h ∷ hs) m (suc x) l =
     let d : suc x * maxNodes ≡ maxNodes + x * maxNodes = omega arith in
     rw (append-assoc, d, ← drop-drop (x * maxNodes) maxNodes (slotBytes h ++ (slotsBytes hs ++ m)), drop-at (slotBytes h) (slotsBytes hs ++ m) maxNodes (slot-length h)) (slots-part hs m x (omega arith))
+
+slots-append : (hs ks : List Slot) → slotsBytes (hs ++ ks) ≡ slotsBytes hs ++ slotsBytes ks
+unfolding slotsBytes
+slots-append [] ks = refl
+slots-append (h ∷ hs) ks = rw (slots-append hs ks) (sym (append-assoc (slotBytes h) (slotsBytes hs) (slotsBytes ks)))
+
+-- what a number has is written over what it had
+pub slot-laid : (hs : List Slot) (es : List Pair) (back : List ℕ) (x : ℕ) (h : Slot) → x < length hs
+    → sets (laid hs es ++ back) (x * maxNodes) (slotBytes h) ≡ laid (set hs x h) es ++ back
+unfolding laid slotsBytes
+slot-laid hs es back x h inside =
+    let first : List ℕ = slotsBytes (take x hs) in
+    let last : List ℕ = slotsBytes (drop (suc x) hs) in
+    let rest : List ℕ = flat es ++ (replicate (entryBytes - 2 * length es) 0 ++ back) in
+    let parts : slotsBytes hs ≡ first ++ (slotBytes (slotAt hs x) ++ last) = ap slotsBytes (split-at hs x free inside) ∙ slots-append (take x hs) (slotAt hs x ∷ drop (suc x) hs) in
+    let parts′ : slotsBytes (set hs x h) ≡ first ++ (slotBytes h ++ last) = ap slotsBytes (set-split hs x h inside) ∙ slots-append (take x hs) (h ∷ drop (suc x) hs) in
+    let at : length first ≡ x * maxNodes = omega (arith, slots-length (take x hs), length-take-le x hs (omega arith)) in
+    rw (parts, parts′) (simp append-assoc (over-run first (slotBytes (slotAt hs x)) (last ++ rest) (slotBytes h) (x * maxNodes) at (slot-length h ∙ sym (slot-length (slotAt hs x)))))

@@ -12,7 +12,7 @@ use Rattle.meaning.specs.Kind.{Kinded, rooted, either, rooted-only}
 use Rattle.meaning.specs.Reading.{Read, got, refused, readTree, likeFirst}
 use Rattle.meaning.specs.Answer.{Answer, accepted, refusal, Outcome, written, textOf, onward, conclude}
 use Rattle.meaning.specs.Calls.{Slice, enough, lent, limited}
-use Rattle.holdings.specs.Slots.{Slot, free, held, slotAt, empty, smallestFree, add, trees}
+use Rattle.holdings.specs.Slots.{Slot, free, held, slotAt, empty, smallestFree, add, remove, trees}
 use Rattle.holdings.specs.Neighbours.{Neighbours}
 use Rattle.holdings.specs.Memory.{indexBytes, encode, IsIndex, Valid}
 
@@ -22,13 +22,13 @@ pub data Opened (first : Answer (Unit {0})) (memory : List ℕ) : Answer (List S
   opens : (hs : List Slot) → first ≡ accepted tt → IsIndex hs memory → Opened first memory (accepted hs)
   foreign : first ≡ accepted tt → ¬ Valid memory → Opened first memory (refusal 12 0 0)
 
--- lent to adding: 60,640 bytes
-abbrev pub addSlices : List ℕ → List Slice
-addSlices memory = (indexBytes, length memory) ∷ []
+-- lent to adding and to removing: 60,640 bytes
+abbrev pub indexSlices : List ℕ → List Slice
+indexSlices memory = (indexBytes, length memory) ∷ []
 
 -- what adding refuses before it looks at memory: its size, and then the text's
 abbrev pub addFirst : List ℕ → List ℕ → Answer (Unit {0})
-addFirst s memory = lent (enough (addSlices memory)) (limited 0 s (accepted tt))
+addFirst s memory = lent (enough (indexSlices memory)) (limited 0 s (accepted tt))
 
 -- the held trees as a table's, in order of number
 abbrev pub table : List Slot → List Kinded
@@ -69,21 +69,36 @@ askSlices memory list = (indexBytes, length memory) ∷ (maxTrees, length list) 
 abbrev pub askFirst : List ℕ → List ℕ → Answer (Unit {0})
 askFirst memory list = lent (enough (askSlices memory list)) (accepted tt)
 
--- what asking for the number x reads
-abbrev pub askRead : ℕ → Answer (List Slot) → Answer (List Slot)
-askRead x opened = onward opened λ hs. having hs (slotAt hs x)
+-- what asking for the number x, and removing it, reads
+abbrev pub numberRead : ℕ → Answer (List Slot) → Answer (List Slot)
+numberRead x opened = onward opened λ hs. having hs (slotAt hs x)
 
 -- asking call: the neighbours of x, and how many they are
 pub data AskCall (x : ℕ) (memory list : List ℕ) : Outcome ℕ (List ℕ) → Type 0 where
-  lists : (hs : List Slot) (ys : List ℕ) (opened : Answer (List Slot)) → Opened (askFirst memory list) memory opened → askRead x opened ≡ accepted hs → Neighbours hs x ys
+  lists : (hs : List Slot) (ys : List ℕ) (opened : Answer (List Slot)) → Opened (askFirst memory list) memory opened → numberRead x opened ≡ accepted hs → Neighbours hs x ys
       → AskCall x memory list (textOf ys list)
-  refuses : (n i p : ℕ) (opened : Answer (List Slot)) → Opened (askFirst memory list) memory opened → askRead x opened ≡ refusal n i p
+  refuses : (n i p : ℕ) (opened : Answer (List Slot)) → Opened (askFirst memory list) memory opened → numberRead x opened ≡ refusal n i p
       → AskCall x memory list (record { answer = refusal n i p; memory = list })
 
--- lent memory after any run of additions from zeros on, and the trees that it holds then
+-- what removing refuses before it looks at memory
+abbrev pub removeFirst : List ℕ → Answer (Unit {0})
+removeFirst memory = lent (enough (indexSlices memory)) (accepted tt)
+
+-- the tree of x removed: nothing but that is answered
+abbrev pub removeFrom : ℕ → List ℕ → List Slot → Outcome (Unit {0}) (List ℕ)
+removeFrom x memory hs = record { answer = accepted tt; memory = written (encode (remove hs x)) memory }
+
+-- removing call
+pub data RemoveCall (x : ℕ) (memory : List ℕ) : Outcome (Unit {0}) (List ℕ) → Type 0 where
+  removes : (opened : Answer (List Slot)) → Opened (removeFirst memory) memory opened → RemoveCall x memory (conclude (numberRead x opened) memory (removeFrom x memory))
+
+-- lent memory after any run of additions and removals from zeros on, and the trees that it holds then
 pub data Used : List Slot → List ℕ → Type 0 where
   fresh : (memory : List ℕ) → take indexBytes memory ≡ replicate indexBytes 0 → Used empty memory
   added : {hs : List Slot} {s memory : List ℕ} {o : Outcome ℕ (List ℕ)} {n p : ℕ} {x : Kinded} → Used hs memory → AddCall s memory o
       → o .answer ≡ accepted n → readTree either s ≡ got x p → Used (add hs (x .tree)) (o .memory)
   unchanged : {hs : List Slot} {s memory : List ℕ} {o : Outcome ℕ (List ℕ)} {n i p : ℕ} → Used hs memory → AddCall s memory o
+      → o .answer ≡ refusal n i p → Used hs (o .memory)
+  removed : {hs : List Slot} {x : ℕ} {memory : List ℕ} {o : Outcome (Unit {0}) (List ℕ)} → Used hs memory → RemoveCall x memory o → o .answer ≡ accepted tt → Used (remove hs x) (o .memory)
+  kept : {hs : List Slot} {x : ℕ} {memory : List ℕ} {o : Outcome (Unit {0}) (List ℕ)} {n i p : ℕ} → Used hs memory → RemoveCall x memory o
       → o .answer ≡ refusal n i p → Used hs (o .memory)

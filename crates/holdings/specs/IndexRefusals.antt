@@ -9,6 +9,6 @@ use Rattle.meaning.specs.Refusals.{oneRefusals, unlikeRefusals}
 abbrev pub addRefusals : List ℕ
 addRefusals = oneRefusals either ++ unlikeRefusals ++ (6 ∷ 7 ∷ 8 ∷ 12 ∷ [])
 
--- asking
-abbrev pub askRefusals : List ℕ
-askRefusals = 7 ∷ 12 ∷ 13 ∷ []
+-- asking and removing
+abbrev pub numberRefusals : List ℕ
+numberRefusals = 7 ∷ 12 ∷ 13 ∷ []

@@ -1,4 +1,4 @@
--- The trees that an index holds, and their numbers: which sets of held trees there are, and what additions make. In words: docs/RULES.md, 'The index'.
+-- The trees that an index holds, and their numbers: which sets of held trees there are, and what additions and removals make. In words: docs/RULES.md, 'The index'.
 -- Assumes nothing.
 use mathlib.Core.Path.{_≡_}
 use mathlib.Core.List.{List, [], _∷_}
@@ -36,6 +36,10 @@ smallestFree (held t ∷ hs) = suc (smallestFree hs)
 -- a tree added: it gets the smallest free number
 abbrev pub add : List Slot → Tree → List Slot
 add hs t = set hs (smallestFree hs) (held (canon t))
+
+-- the tree of x removed: its number is free again
+abbrev pub remove : List Slot → ℕ → List Slot
+remove hs x = set hs x free
 
 -- the held trees in order of number
 unfoldable pub trees : List Slot → List Tree

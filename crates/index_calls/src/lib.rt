@@ -10,6 +10,7 @@ use reading::Step;
 use reading::Takes;
 use slots::Index;
 ghost use mathlib.Core.Path.{_≡_};
+ghost use mathlib.Core.Bool.{true};
 ghost use mathlib.Core.List.{List};
 ghost use Prim.Native.Nat.{_≤_};
 ghost use lib.ListN.{length};
@@ -19,13 +20,20 @@ ghost use Rattle.held.specs.Kept.{KeepsKind, KeptKind};
 ghost use Rattle.lent.specs.Runs.{Says};
 ghost use Rattle.holdings.specs.Slots.{Slot, free, slotAt};
 ghost use Rattle.holdings.specs.Memory.{indexBytes, IsIndex, Valid, Shelved, Shelves};
-ghost use Rattle.holdings.specs.IndexCalls.{table, AddCall, AskCall};
+ghost use Rattle.holdings.specs.IndexCalls.{table, AddCall, AskCall, RemoveCall};
 ghost use Rattle.index_calls.specs.Added.{firstHeld, addOutcome, addJoined};
+ghost use Rattle.index_calls.specs.Removed.{Barred, removeOutcome};
 ghost use Rattle.calls.specs.Paper.{textOutcome};
 
 // What adding answers: the tree's number, or why it refuses.
 pub enum AddAnswer {
     Number(usize),
+    Refused(Refusal),
+}
+
+// What removing answers: that it is done, or why it refuses.
+pub enum RemoveAnswer {
+    Removed,
     Refused(Refusal),
 }
 
@@ -67,10 +75,10 @@ fn add_read(memory: &mut [u8], tree: Tree, behind: usize) -> AddAnswer
     if number == Table::MAX_TREES {
         return AddAnswer::Refused(refusal_at_zero(Refusal::TOO_MANY_TREES, 0));
     }
-    let line = unlike_held(memory, tree);
-    if line != 0 {
+    let unlike = unlike_held(memory, tree);
+    if unlike != 0 {
         return AddAnswer::Refused(Refusal {
-            number: line,
+            number: unlike,
             text: 0,
             place: behind - 1,
         });
@@ -111,19 +119,45 @@ fn has_tree(memory: &[u8], number: usize) -> bool
     !slots::is_free(memory, number)
 }
 
+// The line by which nothing can be done with the number's tree, or 0 where it can. `fits` says whether enough is lent.
+fn barred(memory: &[u8], number: usize, fits: bool) -> u8
+    requires { ⌜ (fits ≡ true → indexBytes ≤ length (now memory)) ⌝ }
+    ensures { λ r. ⌜ Barred (now (memory .entry)) number fits r ⌝ }
+{
+    if !fits {
+        return Refusal::SHORT_SLICE;
+    }
+    if !index::is_index(memory) {
+        return Refusal::NO_INDEX;
+    }
+    if !has_tree(memory, number) {
+        return Refusal::NO_SUCH_TREE;
+    }
+    0
+}
+
 // Asking call: the neighbours of the tree with the number, ascending, from the start of `list` on.
 pub fn index_neighbours_call(memory: &[u8], number: usize, list: &mut [u16]) -> TextAnswer
     ensures { λ r. ⌜ AskCall number (now (memory .entry)) (now (list .entry)) (textOutcome r (now (list .exit))) ⌝ }
 {
     let list_fits = enough(Table::MAX_TREES, list.len(), true);
-    if !enough(Index::BYTES, memory.len(), list_fits) {
-        return TextAnswer::Refused(refusal_at_zero(Refusal::SHORT_SLICE, 0));
-    }
-    if !index::is_index(memory) {
-        return TextAnswer::Refused(refusal_at_zero(Refusal::NO_INDEX, 0));
-    }
-    if !has_tree(memory, number) {
-        return TextAnswer::Refused(refusal_at_zero(Refusal::NO_SUCH_TREE, 0));
+    let fits = enough(Index::BYTES, memory.len(), list_fits);
+    let line = barred(memory, number, fits);
+    if line != 0 {
+        return TextAnswer::Refused(refusal_at_zero(line, 0));
     }
     TextAnswer::Written(asking::list_neighbours(list, memory, number))
+}
+
+// Removing call: the tree with the number is taken out, and the number is free again.
+pub fn index_remove_call(memory: &mut [u8], number: usize) -> RemoveAnswer
+    ensures { λ r. ⌜ RemoveCall number (now (memory .entry)) (removeOutcome r (now (memory .exit))) ⌝ }
+{
+    let fits = enough(Index::BYTES, memory.len(), true);
+    let line = barred(memory, number, fits);
+    if line != 0 {
+        return RemoveAnswer::Refused(refusal_at_zero(line, 0));
+    }
+    removing::remove(memory, number);
+    RemoveAnswer::Removed
 }

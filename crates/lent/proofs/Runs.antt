@@ -1,13 +1,13 @@
 -- Laws of runs in lent memory: what stands at a place, stores one after another, and what they leave.
 -- Assumes nothing.
 use mathlib.Core.Path.{_≡_, refl, sym, ap, ap₂, subst, subst₂, _∙_}
-use mathlib.Core.List.{List, [], _∷_, _++_, map}
+use mathlib.Core.List.{List, [], _∷_, _++_, append-assoc, map}
 use Prim.Native.Nat.{ℕ, zero, suc, _+_, _-_, _≤_, _<_}
 use native.Mathlib.Nat.{add-zero, zero-add}
 use native.Mathlib.Omega.{arith}
 use native.Mathlib.Numerals.{add-one}
 use lib.ListN.{length, take, drop, getD, set, replicate, replicate-append-replicate, length-append, length-drop, length-set, List·getD-append}
-use lib.Seq.{set-comm, take-suc, drop-drop, drop-append-seam, getD-drop, getD-append-add, getD-set-same, getD-set-other, take-at, drop-at, sets, sets-eq, length-sets}
+use lib.Seq.{set-comm, take-suc, drop-drop, drop-append-add, drop-append-seam, getD-drop, getD-append-add, getD-set-same, getD-set-other, take-at, drop-at, sets, sets-eq, length-sets}
 use Rattle.meaning.specs.Lists.{positions}
 use Rattle.meaning.proofs.Sums.{map-suc}
 use Rattle.lent.specs.Runs.{Stands, Wrote}
@@ -46,6 +46,13 @@ module _ {A : Type 0} where
 
   pub sets-at : (d : A) (out ys : List A) → length ys ≤ length out → (i : ℕ) → i < length ys → getD (sets out 0 ys) i d ≡ getD ys i d
   sets-at d out ys fits i inside = rw (sets-start out ys fits) (List·getD-append ys (drop (length ys) out) d i inside)
+
+  -- a run is written over one of the same length
+  pub over-run : (xs ys zs vs : List A) (i : ℕ) → length xs ≡ i → length vs ≡ length ys → sets (xs ++ (ys ++ zs)) i vs ≡ xs ++ (vs ++ zs)
+  over-run xs ys zs vs i e n =
+      let l : i + length vs ≡ length xs + length ys = omega arith in
+      sets-eq vs (xs ++ (ys ++ zs)) i (simp length-append (omega arith))
+      ∙ rw (take-at xs (ys ++ zs) i e, l, drop-append-add xs (ys ++ zs) (length ys), drop-at ys zs (length ys) refl) (append-assoc xs vs zs)
 
   -- what a run of stores leaves: outside the run what was there, and inside it the run
   pub sets-outside : (d : A) (out : List A) (at : ℕ) (ys : List A) (i : ℕ) → (at ≤ i → at + length ys ≤ i) → getD (sets out at ys) i d ≡ getD out i d
@@ -131,9 +138,9 @@ module _ {A : Type 0} where
       subst₂ (λ (ys : List A) (r : ℕ). Wrote ys out₀ (set out (at + i) v) at r) (sym e) p′ (wrote-more p (wrote-one out (at + i) v))
 
   -- one element more of the same
-  pub wrote-same : (v : A) {out out′ : List A} (n : ℕ) → Wrote (replicate n v) out out′ 0 n → Wrote (replicate (n + 1) v) out (set out′ n v) 0 (n + 1)
-  wrote-same v {out} {out′} n w =
-      subst (λ (ys : List A). Wrote ys out (set out′ n v) 0 (n + 1)) (replicate-append-replicate n 1 v) (wrote-more w (wrote-one out′ n v))
+  pub wrote-same : (v : A) {out out′ : List A} {at r : ℕ} (n : ℕ) → Wrote (replicate n v) out out′ at r → Wrote (replicate (n + 1) v) out (set out′ r v) at (r + 1)
+  wrote-same v {out} {out′} {at} {r} n w =
+      subst (λ (ys : List A). Wrote ys out (set out′ r v) at (r + 1)) (replicate-append-replicate n 1 v) (wrote-more w (wrote-one out′ r v))
 
 -- what f makes of one position more
 pub wrote-next : (f : ℕ → ℕ) {out out′ : List ℕ} (i : ℕ) → Wrote (map f (positions i)) out out′ 0 i → Wrote (map f (positions (i + 1))) out (set out′ i (f i)) 0 (i + 1)

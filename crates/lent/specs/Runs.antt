@@ -20,6 +20,10 @@ pub record Wrote {A : Type 0} (ys out out′ : List A) (at r : ℕ) : Type 0 whe
 abbrev pub SameRun : List ℕ → ℕ → List ℕ → ℕ → ℕ → Type 0
 SameRun xs i ys j count = (k : ℕ) → k < count → getD xs (i + k) 0 ≡ getD ys (j + k) 0
 
+-- the numbers of xs from one place to another are zeros
+abbrev pub Zeros : List ℕ → ℕ → ℕ → Type 0
+Zeros xs from to = (k : ℕ) → from ≤ k → k < to → getD xs k 0 ≡ 0
+
 -- of the first n numbers of xs and ys the first r are the same, and the next differ, if there are more
 pub record Common (xs ys : List ℕ) (n r : ℕ) : Type 0 where
   pub few : r ≤ n

@@ -1,10 +1,11 @@
 // Lent memory: slices measured, and runs of elements copied, cleared, compared and counted.
 ghost use mathlib.Core.Path.{_≡_};
 ghost use mathlib.Core.Bool.{_&&_};
-ghost use Prim.Native.Nat.{_+_, _≤_};
+ghost use Prim.Native.Nat.{_+_, _-_, _≤_};
 ghost use lib.Dec.{leb};
 ghost use lib.ListN.{length, take, drop, replicate};
-ghost use Rattle.lent.specs.Runs.{Wrote, SameRun, Common, Says};
+ghost use lib.Seq.{sets};
+ghost use Rattle.lent.specs.Runs.{Wrote, SameRun, Zeros, Common, Says};
 ghost use Rattle.lent.specs.Tallies.{TallyRoom, Tallied};
 
 // Whether a slice of `len` cells has the stated size, and the others have theirs.
@@ -46,6 +47,16 @@ pub fn clear(numbers: &mut [u16], n: usize)
     }
 }
 
+// Sets the bytes from `from` to `to` to 0.
+pub fn clear_bytes(bytes: &mut [u8], from: usize, to: usize)
+    requires { ⌜ to ≤ length (now bytes) ⌝ }
+    ensures { λ _. ⌜ now (bytes .exit) ≡ sets (now (bytes .entry)) from (replicate (to - from) 0) ⌝ }
+{
+    for k in from..to {
+        bytes[k] = 0;
+    }
+}
+
 // Adds one at place x of `tallies` for each x among the first n numbers.
 pub fn tally(tallies: &mut [u16], numbers: &[u16], n: usize)
     requires { ⌜ TallyRoom (now tallies) (now numbers) n ⌝ }
@@ -63,6 +74,19 @@ pub fn same_run(x: &[u8], i: usize, y: &[u8], j: usize, count: usize) -> bool
 {
     for k in 0..count {
         if x[i + k] != y[j + k] {
+            return false;
+        }
+    }
+    true
+}
+
+// Whether the bytes from `from` to `to` are zeros.
+pub fn all_zero(bytes: &[u8], from: usize, to: usize) -> bool
+    requires { ⌜ to ≤ length (now bytes) ⌝ }
+    ensures { λ r. ⌜ Says r (Zeros (now (bytes .entry)) from to) ⌝ }
+{
+    for k in from..to {
+        if bytes[k] != 0 {
             return false;
         }
     }

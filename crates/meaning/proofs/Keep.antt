@@ -1,10 +1,13 @@
 -- The members of a list that pass a test: which these are, and in which order.
 -- Assumes nothing.
-use mathlib.Core.Path.{_≡_, refl, sym, subst}
+use mathlib.Core.Path.{_≡_, refl, sym, ap, _∙_, subst}
 use mathlib.Core.Logic.{_↔_, _⊎_, inl, inr}
 use mathlib.Core.Bool.{Bool, true, false}
-use mathlib.Core.List.{List, [], _∷_, List·Memᴰ, List·Memᴰ·head, List·Memᴰ·tail, List·Memᴰ·not-nil, Memᴰ·cast}
+use mathlib.Core.List.{List, [], _∷_, _++_, List·Memᴰ, List·Memᴰ·head, List·Memᴰ·tail, List·Memᴰ·not-nil, Memᴰ·cast}
+use Prim.Native.Nat.{suc, _≤_}
+use native.Mathlib.Omega.{arith}
 use lib.Dec.{T}
+use lib.ListN.{length}
 use Rattle.meaning.specs.Lists.{NoDup}
 use Rattle.meaning.specs.Sorted.{put, keep, First, Sorted}
 
@@ -51,6 +54,22 @@ module _ {A : Type 0} (b : Bool) (x : A) (xs : List A) where
       go true = (f, s)
       go false = s
 
+  put-append : (ys : List A) → put b x (xs ++ ys) ≡ put b x xs ++ ys
+  unfolding put
+  put-append ys = go b
+    where
+      go : (b : Bool) → put b x (xs ++ ys) ≡ put b x xs ++ ys
+      go true = refl
+      go false = refl
+
+  put-length : length (put b x xs) ≤ suc (length xs)
+  unfolding put
+  put-length = go b
+    where
+      go : (b : Bool) → length (put b x xs) ≤ suc (length xs)
+      go true = omega arith
+      go false = omega arith
+
 -- ---- those that pass
 module _ {A : Type 0} (test : A → Bool) where
   keep-in : (xs : List A) (x : A) → List·Memᴰ x (keep test xs) → List·Memᴰ x xs × T (test x)
@@ -82,3 +101,15 @@ module _ {A : Type 0} (test : A → Bool) where
   unfolding keep
   keep-sorted before [] r = tt
   keep-sorted before (x ∷ xs) r = put-sorted (test x) x (keep test xs) before (λ y m. r .0 y (keep-in xs y m .0)) (keep-sorted before xs (r .1))
+
+  -- of two lists one after the other
+  pub keep-append : (xs ys : List A) → keep test (xs ++ ys) ≡ keep test xs ++ keep test ys
+  unfolding keep
+  keep-append [] ys = refl
+  keep-append (x ∷ xs) ys = ap (put (test x) x) (keep-append xs ys) ∙ put-append (test x) x (keep test xs) (keep test ys)
+
+  -- they are no more
+  pub keep-length : (xs : List A) → length (keep test xs) ≤ length xs
+  unfolding keep
+  keep-length [] = omega arith
+  keep-length (x ∷ xs) = omega (arith, put-length (test x) x (keep test xs), keep-length xs)

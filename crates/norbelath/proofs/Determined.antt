@@ -9,9 +9,9 @@ use Rattle.meaning.specs.Copies.{Choice}
 use Rattle.meaning.specs.Calls.{PairCall, InterchangeCall, ChoosingCall, IslandsCall}
 use Rattle.meaning.specs.Sheet.{SheetCall}
 use Rattle.meaning.proofs.Determined.{pair-determined, lists-determined, islands-determined, sheet-call-determined}
-use Rattle.holdings.specs.IndexCalls.{AddCall, AskCall}
-use Rattle.holdings.proofs.IndexCalls.{add-determined, ask-determined}
-use Rattle.norbelath.specs.Coded.{coded, textValue, pairValue, tableValue, graphValue, textCoded, tableCoded, graphCoded, firstsCoded, islandsCoded}
+use Rattle.holdings.specs.IndexCalls.{AddCall, AskCall, RemoveCall}
+use Rattle.holdings.proofs.IndexCalls.{add-determined, ask-determined, remove-determined}
+use Rattle.norbelath.specs.Coded.{coded, textValue, doneValue, pairValue, tableValue, graphValue, textCoded, doneCoded, tableCoded, graphCoded, firstsCoded, islandsCoded}
 use Rattle.norbelath.specs.declared.Reply.{Reply}
 
 abbrev pub reply : ℕ → ℕ → ℕ → Reply
@@ -51,6 +51,16 @@ pair-back zero (suc (suc x)) zero = refl
 pair-back zero x (suc y) = refl
 pair-back (suc r) x y = refl
 
+-- nothing is answered but that it is done
+abbrev doneNumbers : Answer (Unit {0}) → Reply
+doneNumbers a = numbers (λ _. 0) (λ _. 0) a
+
+done-back : (r x y : ℕ) → doneNumbers (coded doneValue r x y) ≡ reply r x y
+done-back zero zero zero = refl
+done-back zero (suc x) zero = refl
+done-back zero x (suc y) = refl
+done-back (suc r) x y = refl
+
 table-back : (r x y : ℕ) → tableNumbers (coded tableValue r x y) ≡ reply r x y
 table-back zero x y = refl
 table-back (suc r) x y = refl
@@ -76,6 +86,13 @@ module _ {r r′ x x′ y y′ : ℕ} where
 
   pub index-neighbours-code-determined : {n : ℕ} {memory list l l′ : List ℕ} → AskCall n memory list (textCoded r x y l) → AskCall n memory list (textCoded r′ x′ y′ l′) → (reply r x y ≡ reply r′ x′ y′) × (l ≡ l′)
   index-neighbours-code-determined e f = text-code-determined (ask-determined e f) refl
+
+  pub index-remove-code-determined : {n : ℕ} {memory m m′ : List ℕ} → RemoveCall n memory (doneCoded r x y m) → RemoveCall n memory (doneCoded r′ x′ y′ m′) → (reply r x y ≡ reply r′ x′ y′) × (m ≡ m′)
+  index-remove-code-determined e f =
+      let h = remove-determined e f in (
+        sym (done-back r x y) ∙ ap (λ (z : Outcome (Unit {0}) (List ℕ)). doneNumbers (z .answer)) h ∙ done-back r′ x′ y′,
+        ap (λ (z : Outcome (Unit {0}) (List ℕ)). z .memory) h,
+      )
 
   pub pair-code-determined : {s s′ : List ℕ} → PairCall s s′ (coded pairValue r x y) → PairCall s s′ (coded pairValue r′ x′ y′) → reply r x y ≡ reply r′ x′ y′
   pair-code-determined e f = sym (pair-back r x y) ∙ ap pairNumbers (pair-determined e f) ∙ pair-back r′ x′ y′

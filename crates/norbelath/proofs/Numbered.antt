@@ -23,8 +23,8 @@ use Rattle.families.specs.RowCalls.{rowCall, rowTextCall, RowPairCall}
 use Rattle.families.proofs.SupportCall.{support-tells}
 use Rattle.families.proofs.RowCalls.{row-tells, row-text-tells}
 use Rattle.families.proofs.RowPair.{rows-tells, rows-line}
-use Rattle.holdings.specs.IndexCalls.{addTo, AddCall, adds, AskCall}
-use Rattle.holdings.proofs.IndexCalls.{add-tells, ask-tells}
+use Rattle.holdings.specs.IndexCalls.{addTo, AddCall, adds, AskCall, removeFrom, RemoveCall, removes}
+use Rattle.holdings.proofs.IndexCalls.{add-tells, ask-tells, remove-tells}
 use Rattle.norbelath.specs.Coded.{Numbered}
 
 -- 0 is none of the lines
@@ -91,6 +91,9 @@ add-numbered {s} {memory} (adds a A) = concluded memory (addTo memory) (add-tell
 pub ask-numbered : {x : ℕ} {memory list : List ℕ} {o : Outcome ℕ (List ℕ)} → AskCall x memory list o → Numbered (o .answer)
 ask-numbered (AskCall.lists hs ys a A e N) = tt
 ask-numbered {x} {memory} {list} (AskCall.refuses n i p a A e) = from-one tt (tells-refusal (ask-tells x memory list a A) e .number)
+
+pub remove-numbered : {x : ℕ} {memory : List ℕ} {o : Outcome (Unit {0}) (List ℕ)} → RemoveCall x memory o → Numbered (o .answer)
+remove-numbered {x} {memory} (removes a A) = concluded memory (removeFrom x memory) (remove-tells x memory a A) (λ n i p l. from-one tt (l .number)) (λ r. tt)
 
 -- the answer of an outcome that the definition gives
 pub numbered-as : {A M : Type 0} {o o′ : Outcome A M} → o ≡ o′ → Numbered (o′ .answer) → Numbered (o .answer)

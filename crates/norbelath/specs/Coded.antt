@@ -25,6 +25,12 @@ pairValue (suc zero) zero = accepted true
 pairValue (suc (suc x)) zero = refusal 0 (suc (suc x)) 0
 pairValue x (suc y) = refusal 0 x (suc y)
 
+-- the index remove call: 0 and 0, as there is no more to say
+abbrev pub doneValue : ℕ → ℕ → Answer (Unit {0})
+doneValue zero zero = accepted tt
+doneValue (suc x) zero = refusal 0 (suc x) 0
+doneValue x (suc y) = refusal 0 x (suc y)
+
 -- the table call: the bytes written, and the trees
 abbrev pub tableValue : ℕ → ℕ → Answer TableSize
 tableValue x y = accepted (record { bytes = x; trees = y })
@@ -36,6 +42,9 @@ graphValue x y = accepted (record { trees = x; pairs = y })
 -- with the lent memory at exit
 abbrev pub textCoded : ℕ → ℕ → ℕ → List ℕ → Outcome ℕ (List ℕ)
 textCoded r x y out = record { answer = coded textValue r x y; memory = out }
+
+abbrev pub doneCoded : ℕ → ℕ → ℕ → List ℕ → Outcome (Unit {0}) (List ℕ)
+doneCoded r x y memory = record { answer = coded doneValue r x y; memory = memory }
 
 abbrev pub tableCoded : ℕ → ℕ → ℕ → List ℕ → List ℕ → Outcome TableSize TableMemory
 tableCoded r x y texts ends = record { answer = coded tableValue r x y; memory = record { texts = texts; ends = ends } }

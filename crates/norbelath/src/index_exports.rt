@@ -5,10 +5,12 @@ use super::hand_back;
 use super::refused;
 use super::text_reply;
 use index_calls::AddAnswer;
+use index_calls::RemoveAnswer;
 ghost use mathlib.Core.Path.{_≡_};
-ghost use Rattle.holdings.specs.IndexCalls.{AddCall, AskCall};
+ghost use Rattle.holdings.specs.IndexCalls.{AddCall, AskCall, RemoveCall};
 ghost use Rattle.index_calls.specs.Added.{addAnswer};
-ghost use Rattle.norbelath.specs.Coded.{coded, textValue, textCoded, Numbered};
+ghost use Rattle.index_calls.specs.Removed.{removeAnswer};
+ghost use Rattle.norbelath.specs.Coded.{coded, textValue, doneValue, textCoded, doneCoded, Numbered};
 
 fn add_reply(answer: AddAnswer) -> Reply
     requires { ⌜ Numbered (addAnswer answer) ⌝ }
@@ -17,6 +19,16 @@ fn add_reply(answer: AddAnswer) -> Reply
     match answer {
         AddAnswer::Number(number) => accepted(number, 0),
         AddAnswer::Refused(x) => refused(x),
+    }
+}
+
+fn remove_reply(answer: RemoveAnswer) -> Reply
+    requires { ⌜ Numbered (removeAnswer answer) ⌝ }
+    ensures { λ r. ⌜ coded doneValue (r .result) (r .first) (r .second) ≡ removeAnswer answer ⌝ }
+{
+    match answer {
+        RemoveAnswer::Removed => accepted(0, 0),
+        RemoveAnswer::Refused(x) => refused(x),
     }
 }
 
@@ -50,6 +62,23 @@ pub extern "C" fn norbelath_index_neighbours(
 {
     hand_back(
         text_reply(index_calls::index_neighbours_call(memory, number, list)),
+        first,
+        second,
+    )
+}
+
+// Removing call: the numbers are 0 and 0.
+#[no_mangle]
+pub extern "C" fn norbelath_index_remove(
+    memory: &mut [u8],
+    number: usize,
+    first: &mut u64,
+    second: &mut u64,
+) -> u8
+    ensures { λ r. ⌜ RemoveCall number (now (memory .entry)) (doneCoded r (now (first .exit)) (now (second .exit)) (now (memory .exit))) ⌝ }
+{
+    hand_back(
+        remove_reply(index_calls::index_remove_call(memory, number)),
         first,
         second,
     )

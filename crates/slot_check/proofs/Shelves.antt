@@ -12,11 +12,12 @@ use Rattle.meaning.specs.Limits.{maxTrees, maxNodes}
 use Rattle.meaning.specs.Tree.{Tree, Good, Canonical, SameClade}
 use Rattle.meaning.specs.Clade.{clade}
 use Rattle.meaning.proofs.Clade.{clade-iff, clade-some}
+use Rattle.lent.specs.Runs.{Zeros}
 use Rattle.holdings.specs.Slots.{Slot, free, held, slotAt}
 use Rattle.holdings.specs.Memory.{indexBytes, slotBytes, slotIn, Shelves}
 use Rattle.holdings.proofs.HeldTrees.{not-free, one-tree, held-inside}
 use Rattle.holdings.proofs.SlotBytes.{slot-inj}
-use Rattle.slot_check.specs.Slot.{Tells, tells, none, ZerosFrom, Full}
+use Rattle.slot_check.specs.Slot.{Tells, tells, none, Full}
 use Rattle.slot_check.proofs.Slots.{zeros-free, free-zeros, full-some}
 
 -- xs are the bytes of the slot h, whose tree, where it has one, has the clade l
@@ -32,7 +33,7 @@ pub record IsSlot (xs : List ℕ) (l : ℕ) : Type 0 where
   pub is : SlotIs xs l slot
 
 -- zeros are a free one's
-pub slot-free : (xs : List ℕ) (l : ℕ) → length xs ≡ maxNodes → ZerosFrom xs 0 → IsSlot xs l
+pub slot-free : (xs : List ℕ) (l : ℕ) → length xs ≡ maxNodes → Zeros xs 0 maxNodes → IsSlot xs l
 slot-free xs l e z = record {
   slot = free;
   is = record {
@@ -120,7 +121,7 @@ module _ (m : List ℕ) where
     }
 
   -- memory with a slot that is none is that of no set
-  pub no-slot : (x : ℕ) → x < maxTrees → ¬ ZerosFrom (slotIn m x) 0 → {r : ℕ} → Tells (Full (slotIn m x)) r → r ≡ 0 → ¬ Shelves m
+  pub no-slot : (x : ℕ) → x < maxTrees → ¬ Zeros (slotIn m x) 0 maxNodes → {r : ℕ} → Tells (Full (slotIn m x)) r → r ≡ 0 → ¬ Shelves m
   no-slot x h z {r} T zero-told s = go (slotAt (s .slots) x) refl
     where
       bytes : (k : Slot) → slotAt (s .slots) x ≡ k → slotIn m x ≡ slotBytes k
@@ -153,7 +154,7 @@ module _ (m : List ℕ) where
 
   module _ {x l : ℕ} (p : Passed x l) where
     -- a free slot more
-    pub passed-free : length (slotIn m x) ≡ maxNodes → ZerosFrom (slotIn m x) 0 → Passed (x + 1) l
+    pub passed-free : length (slotIn m x) ≡ maxNodes → Zeros (slotIn m x) 0 maxNodes → Passed (x + 1) l
     passed-free e z = record { each = below-more (λ y. IsSlot (slotIn m y) l) x (p .each) (slot-free (slotIn m x) l e z); first = go (p .first) }
       where
         go : (l ≡ 0) ⊎ ((y : ℕ) × (y < x) × Full (slotIn m y) l) → (l ≡ 0) ⊎ ((y : ℕ) × (y < x + 1) × Full (slotIn m y) l)

@@ -1,46 +1,37 @@
 -- The bytes of a slot: zeros, or a tree with zeros behind it.
 -- Assumes nothing.
-use mathlib.Core.Path.{_≡_, refl, sym, ap, _∙_, subst}
+use mathlib.Core.Path.{_≡_, refl, sym, ap, _∙_}
 use mathlib.Core.List.{List}
 use Prim.Native.Nat.{ℕ, _≤_, _<_}
 use native.Mathlib.Decide.{decLt}
 use native.Mathlib.Omega.{arith}
-use lib.ListN.{length, getD, replicate, length-replicate, getD-replicate, List·getD-eq-default, List·getD-append}
+use lib.ListN.{length, getD, replicate, length-replicate, getD-replicate, List·getD-append}
 use lib.Seq.{length-sets, ext-getD}
 use Rattle.meaning.specs.Limits.{maxNodes}
 use Rattle.meaning.specs.Tree.{Tree}
 use Rattle.meaning.proofs.Clade.{clade-some}
+use Rattle.lent.specs.Runs.{Zeros}
 use Rattle.lent.proofs.Runs.{sets-outside, sets-at}
 use Rattle.held.specs.Held.{Holds, Held, nodes, pre, hold}
 use Rattle.held.proofs.Laws.{few-nodes, holding, length-pre}
-use Rattle.slot_check.specs.Slot.{InOrder, Tells, tells, none, ZerosFrom, Full}
+use Rattle.holdings.proofs.Bytes.{all-zero}
+use Rattle.slot_check.specs.Slot.{InOrder, Tells, tells, none, Full}
 use Rattle.slot_check.proofs.InOrder.{told}
 
 -- ---- zeros
--- behind the end there are zeros
-pub zeros-all : (xs : List ℕ) (from : ℕ) → ((k : ℕ) → k < length xs → from ≤ k → getD xs k 0 ≡ 0) → ZerosFrom xs from
-zeros-all xs from f k h = by (decLt k (length xs))
-  where
-    by : Dec (k < length xs) → getD xs k 0 ≡ 0
-    by (yes l) = f k l h
-    by (no l) = List·getD-eq-default xs 0 (omega arith)
-
-none-there : (n : ℕ) → ZerosFrom (replicate n 0) 0
-none-there n = zeros-all (replicate n 0) 0 (λ k l h. getD-replicate n k 0 0 (omega (arith, length-replicate {A = ℕ} n 0)))
-
 -- a list of zeros only is told by its length
-pub zeros-free : (n : ℕ) (xs : List ℕ) → length xs ≡ n → ZerosFrom xs 0 → xs ≡ replicate n 0
-zeros-free n xs e z = ext-getD 0 xs (replicate n 0) (e ∙ sym (length-replicate n 0)) (λ k l. z k (omega arith) ∙ sym (none-there n k (omega arith)))
+pub zeros-free : (n : ℕ) (xs : List ℕ) → length xs ≡ n → Zeros xs 0 n → xs ≡ replicate n 0
+zeros-free n xs e z = all-zero n xs e (λ k l. z k (omega arith) l)
 
-pub free-zeros : (n : ℕ) (xs : List ℕ) → xs ≡ replicate n 0 → ZerosFrom xs 0
-free-zeros n xs e = subst (λ (l : List ℕ). ZerosFrom l 0) (sym e) (none-there n)
+pub free-zeros : (n : ℕ) (xs : List ℕ) → xs ≡ replicate n 0 → Zeros xs 0 n
+free-zeros n xs e k h l = ap (λ (ys : List ℕ). getD ys k 0) e ∙ getD-replicate n k 0 0 l
 
 -- ---- a tree with zeros behind it
-hold-zeros : (t : Tree) → ZerosFrom (hold t) (nodes t)
-hold-zeros t k h = sets-outside 0 (replicate maxNodes 0) 0 (pre t) k (λ l. omega (arith, length-pre t)) ∙ none-there maxNodes k (omega arith)
+hold-zeros : (t : Tree) → Zeros (hold t) (nodes t) maxNodes
+hold-zeros t k h l = sets-outside 0 (replicate maxNodes 0) 0 (pre t) k (λ _. omega (arith, length-pre t)) ∙ getD-replicate maxNodes k 0 0 l
 
 -- so these bytes are told by the tree
-module _ (xs : List ℕ) (t : Tree) (long : length xs ≡ maxNodes) (few : nodes t ≤ maxNodes) (h : Holds xs 0 t) (z : ZerosFrom xs (nodes t)) where
+module _ (xs : List ℕ) (t : Tree) (long : length xs ≡ maxNodes) (few : nodes t ≤ maxNodes) (h : Holds xs 0 t) (z : Zeros xs (nodes t) maxNodes) where
   tree-at : (k : ℕ) → k < nodes t → getD xs k 0 ≡ getD (hold t) k 0
   tree-at k l =
       let i : k < length (pre t) = omega (arith, length-pre t) in
@@ -48,11 +39,11 @@ module _ (xs : List ℕ) (t : Tree) (long : length xs ≡ maxNodes) (few : nodes
       ∙ sym (sets-at 0 (replicate maxNodes 0) (pre t) (omega (arith, length-pre t, length-replicate {A = ℕ} maxNodes 0)) k i)
 
   slot-is : xs ≡ hold t
-  slot-is = ext-getD 0 xs (hold t) (long ∙ sym (length-sets (replicate maxNodes 0) 0 (pre t))) (λ k l. by k (decLt k (nodes t)))
+  slot-is = ext-getD 0 xs (hold t) (long ∙ sym (length-sets (replicate maxNodes 0) 0 (pre t))) (λ k l. by k (omega (arith, long)) (decLt k (nodes t)))
     where
-      by : (k : ℕ) → Dec (k < nodes t) → getD xs k 0 ≡ getD (hold t) k 0
-      by k (yes l) = tree-at k l
-      by k (no l) = z k (omega arith) ∙ sym (hold-zeros t k (omega arith))
+      by : (k : ℕ) → k < maxNodes → Dec (k < nodes t) → getD xs k 0 ≡ getD (hold t) k 0
+      by k i (yes l) = tree-at k l
+      by k i (no l) = z k (omega arith) i ∙ sym (hold-zeros t k (omega arith) i)
 
 -- ---- what is told of a slot
 pub found : {P : ℕ → Type 0} {r : ℕ} → Tells P r → (r ≡ 0 → ⊥) → P r
@@ -82,11 +73,11 @@ module _ {xs : List ℕ} {r : ℕ} (X : Tells (InOrder xs 0) r) where
 
     module _ (w : ℕ) (width : (t : Tree) → Holds xs 0 t → w ≡ nodes t) where
       -- more behind it
-      pub full-more : ¬ ZerosFrom xs w → Tells (Full xs) 0
+      pub full-more : ¬ Zeros xs w maxNodes → Tells (Full xs) 0
       full-more m = none refl (λ l F. m (rw (width (F .tree) (full-holds F), F .bytes) (hold-zeros (F .tree))))
 
       -- zeros behind it
-      pub full-zeros : length xs ≡ maxNodes → ZerosFrom xs w → Tells (Full xs) r
+      pub full-zeros : length xs ≡ maxNodes → Zeros xs w maxNodes → Tells (Full xs) r
       full-zeros long z =
-          let z′ : ZerosFrom xs (nodes (o .tree)) = rw (width (o .tree) (o .holds)) at z in
+          let z′ : Zeros xs (nodes (o .tree)) maxNodes = rw (width (o .tree) (o .holds)) at z in
           tells (record { tree = o .tree; good = o .good; canonical = o .canonical; bytes = slot-is xs (o .tree) long (few-nodes (o .good)) (o .holds) z′; labels = o .labels })

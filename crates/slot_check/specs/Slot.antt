@@ -3,9 +3,8 @@
 use mathlib.Core.Path.{_≡_}
 use mathlib.Core.Bool.{cond}
 use mathlib.Core.List.{List}
-use Prim.Native.Nat.{ℕ, _+_, _-_, _≤_, _<_}
+use Prim.Native.Nat.{ℕ, _+_, _-_, _<_}
 use lib.Dec.{T, leb, eqb}
-use lib.ListN.{getD}
 use Rattle.meaning.specs.Limits.{maxLabel}
 use Rattle.meaning.specs.Tree.{Tree, Good, Canonical}
 use Rattle.meaning.specs.Clade.{lowest, disjoint, clade}
@@ -39,10 +38,6 @@ pub record InOrder (xs : List ℕ) (k l : ℕ) : Type 0 where
 pub data Tells (P : ℕ → Type 0) : ℕ → Type 0 where
   tells : {r : ℕ} → P r → Tells P r
   none : {r : ℕ} → r ≡ 0 → ((l : ℕ) → P l → ⊥) → Tells P r
-
--- xs has zeros only from k on
-abbrev pub ZerosFrom : List ℕ → ℕ → Type 0
-ZerosFrom xs k = (i : ℕ) → k ≤ i → getD xs i 0 ≡ 0
 
 -- xs are the bytes of a slot with a tree, of which l is the clade
 pub record Full (xs : List ℕ) (l : ℕ) : Type 0 where

@@ -8,7 +8,7 @@ ghost use lib.ListN.{length, getD};
 ghost use Rattle.meaning.specs.Limits.{maxNodes};
 ghost use Rattle.lent.specs.Runs.{Says};
 ghost use Rattle.holdings.specs.Memory.{indexBytes, Shelves};
-ghost use Rattle.slot_check.specs.Slot.{claim, Joined, InOrder, Tells, ZerosFrom, Full};
+ghost use Rattle.slot_check.specs.Slot.{claim, Joined, InOrder, Tells, Full};
 
 // The leaves that the byte of node k claims; 0 behind the end.
 fn claimed(n: &[u8], k: usize) -> u8
@@ -80,18 +80,6 @@ fn labels_in_order(n: &[u8], k: usize) -> u64
     joined(x, y)
 }
 
-// Whether n has zeros only from a place on.
-fn zeros_from(n: &[u8], from: usize) -> bool
-    ensures { λ r. ⌜ Says r (ZerosFrom (now (n .entry)) from) ⌝ }
-{
-    for i in from..n.len() {
-        if n[i] != 0 {
-            return false;
-        }
-    }
-    true
-}
-
 // The labels of the tree that the bytes of a slot hold, with zeros behind it; 0 where there is none.
 fn labels_of(slot: &[u8]) -> u64
     requires { ⌜ length (now slot) ≡ maxNodes ⌝ }
@@ -101,7 +89,7 @@ fn labels_of(slot: &[u8]) -> u64
     if labels == 0 {
         return 0;
     }
-    if !zeros_from(slot, held::width(slot, 0)) {
+    if !lent::all_zero(slot, held::width(slot, 0), Tree::MAX_NODES) {
         return 0;
     }
     labels
@@ -116,7 +104,7 @@ pub fn are_slots(memory: &[u8]) -> bool
     for x in 0..Table::MAX_TREES {
         let at = x * Tree::MAX_NODES;
         let slot = &memory[at..at + Tree::MAX_NODES];
-        if !zeros_from(slot, 0) {
+        if !lent::all_zero(slot, 0, Tree::MAX_NODES) {
             let labels = labels_of(slot);
             if labels == 0 {
                 return false;

@@ -1,4 +1,7 @@
-//! The index beside the independent one: runs of additions and questions, memory with gaps, and damaged memory.
+//! The index beside the independent one: runs of additions, removals and questions, memory with gaps, and damaged memory.
+
+use std::collections::BTreeMap;
+use std::fmt::Debug;
 
 use norbelath::{Copies, Index, Refusal, INDEX_BYTES, INDEX_LIST, MAX_TEXT, MAX_TREES};
 
@@ -6,34 +9,58 @@ use crate::comparison::{refusal, shown, too_short, Comparison, Lent, SHORT};
 use crate::generator::{chains, damage, damage_index, labels, take_out, Kind, Random, Tree};
 use crate::{every_text, random_tree};
 
+/// What a call that changes an index answers, and the memory then.
+type Changed<T> = Result<(T, Vec<u8>), Refusal>;
+
 impl Comparison {
-    /// Adding to the index in this memory, with some lent behind it; to one that owns it; and with too little lent.
-    /// Expected are the number and the memory with the tree.
-    fn index_add(
+    /// A change of the index in this memory, with some lent behind it; of one that owns it; and with too little lent.
+    fn index_change<T: Copy + Debug + PartialEq>(
         &mut self,
         memory: &[u8],
-        text: &[u8],
-        expected: &Result<(usize, Vec<u8>), Refusal>,
+        shown: &str,
+        expected: &Changed<T>,
+        lent_call: impl Fn(&mut [u8]) -> Result<T, Refusal>,
+        owner_call: impl Fn(&mut Index) -> Result<T, Refusal>,
     ) {
-        let number = expected.as_ref().map(|x| x.0).map_err(|&x| x);
+        let answered = expected.as_ref().map(|x| x.0).map_err(|&x| x);
         let after = expected.as_ref().map_or(memory, |x| &x.1);
         let extra = self.random.pick(&[0, 0, 1, 13]);
         let mut lent = Lent::behind(&mut self.random, memory, extra, |x| x as u8);
-        let answer = norbelath::index_add_into(&mut lent.slice, text);
-        assert_eq!(answer, number, "{}", shown(text));
-        assert!(lent.holds(after), "{}", shown(text));
+        let answer = lent_call(&mut lent.slice);
+        assert_eq!(answer, answered, "{shown}");
+        assert!(lent.holds(after), "{shown}");
         self.count(&answer);
 
         let mut index = Index::from_bytes(memory);
-        assert_eq!(index.add(text), number, "{}", shown(text));
-        assert!(index.as_bytes() == after, "{}", shown(text));
+        assert_eq!(owner_call(&mut index), answered, "{shown}");
+        assert!(index.as_bytes() == after, "{shown}");
 
         let len = too_short(&mut self.random, INDEX_BYTES);
         let mut short = memory[..len].to_vec();
-        let answer = norbelath::index_add_into(&mut short, text);
-        assert_eq!(answer, Err(SHORT), "{}", shown(text));
-        assert!(short == memory[..len], "{}", shown(text));
+        let answer = lent_call(&mut short);
+        assert_eq!(answer, Err(SHORT), "{shown}");
+        assert!(short == memory[..len], "{shown}");
         self.count(&answer);
+    }
+
+    fn index_add(&mut self, memory: &[u8], text: &[u8], expected: &Changed<usize>) {
+        self.index_change(
+            memory,
+            &shown(text),
+            expected,
+            |memory| norbelath::index_add_into(memory, text),
+            |index| index.add(text),
+        );
+    }
+
+    fn index_remove(&mut self, memory: &[u8], number: usize, expected: &Changed<()>) {
+        self.index_change(
+            memory,
+            &format!("{number} removed"),
+            expected,
+            |memory| norbelath::index_remove_into(memory, number),
+            |index| index.remove(number),
+        );
     }
 
     /// Asking the index in this memory, in the same ways, and with too short a list.
@@ -64,24 +91,33 @@ impl Comparison {
         self.count(&answer);
     }
 
-    /// Both calls on any memory.
+    /// Each call on any memory.
     fn index_calls(&mut self, memory: &[u8], text: &[u8], number: usize) {
         let expected = plain::index_add(memory, text).map_err(refusal);
         self.index_add(memory, text, &expected);
         let expected = plain::index_neighbours(memory, number).map_err(refusal);
         self.index_neighbours(memory, number, &expected);
+        let expected = plain::index_remove(memory, number).map_err(refusal);
+        self.index_remove(memory, number, &expected.map(|after| ((), after)));
     }
 }
 
-/// An index that is added to and asked, and the texts of its trees in order of number.
+/// An index that is changed and asked, and the texts of its trees by number.
 #[derive(Default)]
 struct Run {
     plain: plain::Index,
-    table: Vec<u8>,
-    trees: usize,
+    texts: BTreeMap<usize, Vec<u8>>,
+    /// How many trees got a number below a held one.
+    filled: usize,
+    /// How many times the last tree was removed.
+    emptied: usize,
 }
 
 impl Run {
+    fn numbers(&self) -> Vec<usize> {
+        self.texts.keys().copied().collect()
+    }
+
     fn add(&mut self, compare: &mut Comparison, text: &[u8]) {
         let memory = self.plain.memory();
         let added = self.plain.add(text).map_err(refusal);
@@ -91,9 +127,23 @@ impl Run {
             &added.map(|number| (number, self.plain.memory())),
         );
         if let Ok(number) = added {
-            assert_eq!(number, self.trees);
-            self.table.extend(text);
-            self.trees += 1;
+            assert_eq!(number, smallest_free(&self.numbers()));
+            self.filled += usize::from(number < self.texts.len());
+            self.texts.insert(number, text.to_vec());
+        }
+    }
+
+    fn remove(&mut self, compare: &mut Comparison, number: usize) {
+        let mut memory = self.plain.memory();
+        let removed = self.plain.remove(number).map_err(refusal);
+        let after = self.plain.memory();
+        compare.index_remove(&memory, number, &removed.map(|()| ((), after.clone())));
+        if removed.is_ok() {
+            // The same by hand, on the bytes.
+            take_out(&mut memory, number);
+            assert!(memory == after, "{number}");
+            self.texts.remove(&number).expect("a held tree");
+            self.emptied += usize::from(self.texts.is_empty());
         }
     }
 
@@ -102,17 +152,20 @@ impl Run {
         compare.index_neighbours(&self.plain.memory(), number, &expected);
     }
 
-    /// Each list is what the graph call, with copies kept apart, gives for the same trees. Gives how many neighbours
-    /// there are in all.
+    /// Each list is what the graph call, with copies kept apart, gives for the held trees in order of number, where a
+    /// position stands for the number at that place. Gives how many neighbours there are in all.
     fn beside_the_graph(&self) -> usize {
-        let graph = norbelath::graph_choosing(&self.table, Copies::KeepApart).expect("a table");
-        let mut lists = vec![vec![]; self.trees];
+        let numbers = self.numbers();
+        let table: Vec<u8> = self.texts.values().flatten().copied().collect();
+        let graph = norbelath::graph_choosing(&table, Copies::KeepApart).expect("a table");
+        let mut lists = vec![vec![]; numbers.len()];
         for &(i, j) in &graph.pairs {
-            lists[i as usize].push(j);
-            lists[j as usize].push(i);
+            let (i, j) = (i as usize, j as usize);
+            lists[i].push(numbers[j] as u16);
+            lists[j].push(numbers[i] as u16);
         }
         let index = Index::from_bytes(&self.plain.memory());
-        for (number, list) in lists.iter_mut().enumerate() {
+        for (&number, list) in numbers.iter().zip(&mut lists) {
             list.sort_unstable();
             assert_eq!(index.neighbours(number).as_ref(), Ok(&*list), "{number}");
         }
@@ -120,11 +173,20 @@ impl Run {
     }
 }
 
-/// A number that may be held, one that is not, and those of which fewer bits are a held number.
-fn some_number(random: &mut Random, trees: usize) -> usize {
-    let held = random.below(trees.max(1));
+/// The smallest number that is not one of these; 160 where all are.
+fn smallest_free(numbers: &[usize]) -> usize {
+    let free = (0..MAX_TREES).find(|x| !numbers.contains(x));
+    free.unwrap_or(MAX_TREES)
+}
+
+/// One of these numbers, the smallest other one, and those of which fewer bits are one of them.
+fn some_number(random: &mut Random, numbers: &[usize]) -> usize {
+    let held = match numbers {
+        [] => 0,
+        _ => random.pick(numbers),
+    };
     let others = [
-        trees,
+        smallest_free(numbers),
         MAX_TREES,
         255,
         256 + held,
@@ -138,7 +200,8 @@ fn some_number(random: &mut Random, trees: usize) -> usize {
 }
 
 /// A text that an index of trees like this may be given: of the tree, or for a few in a hundred one that is refused.
-fn some_text(random: &mut Random, tree: &Tree, leaves: usize) -> Vec<u8> {
+fn some_text(random: &mut Random, tree: &Tree) -> Vec<u8> {
+    let leaves = tree.nodes() / 2 + 1;
     match random.below(30) {
         0 => tree.text_as(Kind::Unrooted, random, 2),
         1 => random_tree(random, leaves + 1).text_as(Kind::Unrooted, random, 2),
@@ -153,32 +216,48 @@ fn some_text(random: &mut Random, tree: &Tree, leaves: usize) -> Vec<u8> {
     }
 }
 
-/// Additions and questions, one after another on one index, up to and above 160 trees; the trees are near each other,
-/// and some are copies.
+/// So many trees of one label set, near each other and some of them copies.
+fn some_trees(random: &mut Random, most_leaves: usize, trees: usize) -> Vec<Tree> {
+    let leaves = 1 + random.below(most_leaves);
+    let set = labels(random, leaves);
+    let longest = random.pick(&[1, 3, 12]);
+    chains(random, Kind::Rooted, &set, trees, longest)
+}
+
+/// Additions, removals and questions, one after another on one index, up to and above 160 trees. Whenever no tree is
+/// held, those that follow have other labels.
 #[test]
 fn runs_of_an_index() {
     let mut compare = Comparison::new(23);
-    let mut neighbours = 0;
+    let (mut neighbours, mut filled, mut emptied) = (0, 0, 0);
     for turn in 0..240 {
-        let trees = match turn % 24 {
+        let steps = match turn % 24 {
             0 => MAX_TREES + 60,
             _ => 1 + compare.random.below(24),
         };
-        let leaves = 1 + compare.random.below([6, 6, 20][turn % 3]);
-        let set = labels(&mut compare.random, leaves);
-        let longest = compare.random.pick(&[1, 3, 12]);
-        let made = chains(&mut compare.random, Kind::Rooted, &set, trees, longest);
+        let removals = [0, 30, 50][turn / 24 % 3];
         let mut run = Run::default();
-        for _ in 0..trees {
-            let tree = &made[compare.random.below(trees)];
-            let text = some_text(&mut compare.random, tree, leaves);
-            run.add(&mut compare, &text);
+        let mut made = Vec::new();
+        for _ in 0..steps {
+            if run.texts.is_empty() {
+                made = some_trees(&mut compare.random, [6, 6, 20][turn % 3], steps);
+            }
+            if compare.random.percent(removals) {
+                let number = some_number(&mut compare.random, &run.numbers());
+                run.remove(&mut compare, number);
+            } else {
+                let tree = &made[compare.random.below(steps)];
+                let text = some_text(&mut compare.random, tree);
+                run.add(&mut compare, &text);
+            }
             for _ in 0..2 {
-                let number = some_number(&mut compare.random, run.trees);
+                let number = some_number(&mut compare.random, &run.numbers());
                 run.ask(&mut compare, number);
             }
         }
         neighbours += run.beside_the_graph();
+        filled += run.filled;
+        emptied += run.emptied;
     }
     let least = [
         (0, 6_000),
@@ -186,15 +265,17 @@ fn runs_of_an_index() {
         (5, 40),
         (6, 50),
         (7, 10_000),
-        (8, 50),
+        (8, 40),
         (10, 100),
-        (13, 1_000),
+        (13, 2_000),
     ];
     compare.met("runs of an index", &least);
-    assert!(neighbours >= 5_000, "{neighbours} neighbours only");
+    println!("{neighbours} neighbours, {filled} gaps filled, {emptied} times no tree left");
+    assert!(neighbours >= 5_000 && filled >= 300 && emptied >= 100);
 }
 
-/// A full index of the largest trees, most of them in chains of moves and some twice. Then no tree is taken any more.
+/// A full index of the largest trees, most of them in chains of moves and some twice. Then no tree is taken any more,
+/// until one is removed.
 #[test]
 fn full_index() {
     let mut compare = Comparison::new(24);
@@ -205,7 +286,7 @@ fn full_index() {
         let text = tree.text(&mut compare.random, 0);
         run.add(&mut compare, &text);
         if turn % 20 == 19 {
-            let number = some_number(&mut compare.random, run.trees);
+            let number = some_number(&mut compare.random, &run.numbers());
             run.ask(&mut compare, number);
         }
     }
@@ -213,8 +294,19 @@ fn full_index() {
     for text in [&b"(1,2"[..], b"[&U]7;", b"7;", &again] {
         run.add(&mut compare, text);
     }
+    for tree in &trees[..8] {
+        let number = compare.random.below(MAX_TREES);
+        run.remove(&mut compare, number);
+        let text = tree.text(&mut compare.random, 0);
+        run.add(&mut compare, &text);
+        assert_eq!(run.texts[&number], text);
+        run.add(&mut compare, &text);
+    }
+    for number in (0..MAX_TREES).step_by(11) {
+        run.remove(&mut compare, number);
+    }
     assert!(run.beside_the_graph() >= 200);
-    compare.met("full index", &[(0, 160), (1, 1), (6, 3), (7, 160)]);
+    compare.met("full index", &[(0, 190), (1, 1), (6, 11), (7, 190)]);
 }
 
 /// What is read as in the form call, and then refused or not beside one held tree.
@@ -269,12 +361,12 @@ fn memory_of_any_bytes() {
             let held = plain::Index::of_memory(&memory).expect("an index");
             gaps += usize::from(held.numbers().enumerate().any(|(i, number)| i < number));
         }
-        let text = some_text(&mut compare.random, &made[0], leaves);
-        let number = some_number(&mut compare.random, trees);
+        let text = some_text(&mut compare.random, &made[0]);
+        let number = some_number(&mut compare.random, &(0..trees).collect::<Vec<_>>());
         compare.index_calls(&memory, &text, number);
     }
     compare.index_calls(&[255; INDEX_BYTES], b"(1,2);", 0);
-    let least = [(0, 2_000), (7, 15_000), (12, 5_000), (13, 500)];
+    let least = [(0, 3_000), (7, 20_000), (12, 8_000), (13, 1_000)];
     compare.met("memory of any bytes", &least);
     assert!(gaps >= 500, "{gaps} with gaps only");
 }
@@ -292,12 +384,18 @@ fn indices_as_values() {
     assert_eq!(index.neighbours(0), Ok(vec![1]));
     assert_eq!(copy.neighbours(0), Ok(vec![]));
     assert_eq!(format!("{index:?}"), "Index { .. }");
+    let mut fewer = index.clone();
+    assert_eq!(fewer.remove(1), Ok(()));
+    assert_eq!(fewer, copy);
+    assert_eq!(fewer.remove(0), Ok(()));
+    assert_eq!(fewer, Index::new());
 
     let longer = [index.as_bytes(), b"behind"].concat();
     assert_eq!(Index::from_bytes(&longer), index);
     let mut shorter = Index::from_bytes(&longer[..INDEX_BYTES - 1]);
     assert_eq!(shorter.neighbours(0), Err(SHORT));
     assert_eq!(shorter.add(b"((1,2),3);"), Err(SHORT));
+    assert_eq!(shorter.remove(0), Err(SHORT));
     let none = Index::from_bytes(&[1; INDEX_BYTES])
         .neighbours(0)
         .unwrap_err();
@@ -311,4 +409,5 @@ fn indices_as_values() {
         free.to_string(),
         "refused 13 at 0 of text 0: a number that no held tree has"
     );
+    assert_eq!(index.remove(2), Err(free));
 }

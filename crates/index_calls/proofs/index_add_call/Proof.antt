@@ -10,7 +10,7 @@ use Rattle.meaning.specs.Calls.{enough}
 use Rattle.meaning.proofs.Lent.{enough-ample}
 use Rattle.lent.proofs.Says.{said, denied}
 use Rattle.holdings.specs.Memory.{indexBytes, Valid}
-use Rattle.holdings.specs.IndexCalls.{addSlices}
+use Rattle.holdings.specs.IndexCalls.{indexSlices}
 use Rattle.calls.proofs.Pairing.{read-kept, read-some}
 use Rattle.index_calls.proofs.Calling.{add-short, add-long, add-foreign, add-denied, add-taken}
 use Rattle.index_calls.proofs.index_add_call.Statement.{statement}
@@ -36,11 +36,11 @@ module _ (l : tie.Else1) where
   abbrev start : tie.Start
   start = l .before .before .before .before
 
-  lent : enough (addSlices (start .args .memory .now)) ≡ true
+  lent : enough (indexSlices (start .args .memory .now)) ≡ true
   lent = sym (l .before .enough .ensures) ∙ not-false (l .before .enough .result) (l .if1 .left)
 
   long : indexBytes ≤ length (start .args .memory .now)
-  long = enough-ample (addSlices (start .args .memory .now)) lent
+  long = enough-ample (indexSlices (start .args .memory .now)) lent
 
 returns-2 : tie.Need-returns-2
 returns-2 c =

@@ -9,10 +9,10 @@ use borrow.Author.Needs.{needs}
 use borrow.Author.Tests.{not-true, not-false}
 use lib.ListN.{length}
 use Rattle.meaning.specs.Limits.{maxTrees, maxNodes}
-use Rattle.lent.specs.Runs.{Says}
+use Rattle.lent.specs.Runs.{Zeros, Says}
 use Rattle.lent.proofs.Says.{said, denied}
 use Rattle.holdings.specs.Memory.{slotIn}
-use Rattle.slot_check.specs.Slot.{ZerosFrom, Tells, Full}
+use Rattle.slot_check.specs.Slot.{Tells, Full}
 use Rattle.slot_check.proofs.Slots.{found}
 use Rattle.slot_check.proofs.Shelves.{part-is, slot-long, all-shelved, no-slot, Passed, Came, passed-none, passed-free, passed-full, refused-labels}
 use Rattle.slot_check.proofs.are_slots.Statement.{statement}
@@ -42,12 +42,12 @@ part-slot-start c = omega arith
 part-slot-end : tie.Need-part-slot-end Inv-loop μ-loop
 part-slot-end c = omega arith
 
-zeros-from-requires : tie.Need-zeros-from-requires Inv-loop μ-loop
-zeros-from-requires c κs = search needs
+all-zero-requires : tie.Need-all-zero-requires Inv-loop μ-loop
+all-zero-requires c κs = search needs
 
 -- it is known whether slot x is zeros
 abbrev Looked : Type 0
-Looked = tie.After-zeros-from Inv-loop μ-loop
+Looked = tie.After-all-zero Inv-loop μ-loop
 
 abbrev memory : Looked → List ℕ
 memory z = z .before .before .before .before .before .args .memory .now
@@ -67,11 +67,11 @@ passed z = z .before .before .before .loop .inv .1
 whole : (z : Looked) → length (slotIn (memory z) (place z)) ≡ maxNodes
 whole z = slot-long (memory z) (z .before .before .before .before .before .pre) (place z) (below z)
 
-abbrev Zeros : Looked → Type 0
-Zeros z = ZerosFrom (slotIn (memory z) (place z)) 0
+abbrev NoTree : Looked → Type 0
+NoTree z = Zeros (slotIn (memory z) (place z)) 0 maxNodes
 
-zeros-said : (z : Looked) → Says (z .zeros-from .result) (Zeros z)
-zeros-said z = rw (part-is (memory z) (place z)) at (z .zeros-from .ensures)
+zeros-said : (z : Looked) → Says (z .all-zero .result) (NoTree z)
+zeros-said z = rw (part-is (memory z) (place z)) at (z .all-zero .ensures)
 
 labels-of-requires : tie.Need-labels-of-requires Inv-loop μ-loop
 labels-of-requires c κs = let z = c .before in ap length (part-is (memory z) (place z)) ∙ whole z
@@ -90,7 +90,7 @@ returns : tie.Need-returns Inv-loop μ-loop
 returns c =
     let b = c .before in
     let z = looked b in
-    let some = denied (Zeros z) (not-true (z .zeros-from .result) (b .before .if1 .taken)) (zeros-said z) in
+    let some = denied (NoTree z) (not-true (z .all-zero .result) (b .before .if1 .taken)) (zeros-said z) in
     no-slot (memory z) (place z) (below z) some (labels-told b) (c .if2 .taken)
 
 -- they are the common ones where there were none
@@ -128,7 +128,7 @@ loop-again c =
           let j : Shared = record { before = record { before = record { before = record { before = z; if1 = w .0 }; labels-of = w .1 }; if2 = w .2 }; if3 = w .3 } in
           subst (Passed here (place z + 1)) (sym (w .5)) (passed-full here (passed z) (w .1 .result) (w .3 .common) (full j) (came j) (omega (arith, w .4 .left))))
           (λ w.
-          let zeros = said (Zeros z) (not-false (z .zeros-from .result) (w .0 .left)) (zeros-said z) in
+          let zeros = said (NoTree z) (not-false (z .all-zero .result) (w .0 .left)) (zeros-said z) in
           subst (Passed here (place z + 1)) (sym (w .1)) (passed-free here (passed z) (whole z) zeros))
           (c .if1 .came),
     )
@@ -150,7 +150,7 @@ are-slots-spec =
     sub-slot
     part-slot-start
     part-slot-end
-    zeros-from-requires
+    all-zero-requires
     labels-of-requires
     returns
     returns-2
