@@ -1,6 +1,6 @@
 #!/usr/bin/env bash
-# Builds the library and tests it from C and from Rust. Also builds the programs of tests/independent: graphs.c, index.c,
-# interchanges.c, rows.c and supports.c.
+# Builds the library and tests it from C and from Rust. Also builds the programs of tests/independent: bounds.c, graphs.c,
+# index.c, interchanges.c, rows.c and supports.c.
 # Needs the Rattle kit (rt on the PATH), a C compiler and cargo; nothing is fetched. All that it makes is in target/bindings.
 set -euo pipefail
 cd "$(dirname "$0")"
@@ -9,7 +9,7 @@ made=$(cd .. && pwd -P)/target/bindings
 ../tools/native.sh norbelath "$made/libnorbelath.a"
 "${CC:-cc}" -std=c11 -O2 -Wall -Wextra -Werror -I../include c/test.c -L"$made" -lnorbelath -o "$made/c-test"
 "$made/c-test"
-for program in graphs index interchanges rows supports; do
+for program in bounds graphs index interchanges rows supports; do
     "${CC:-cc}" -std=c11 -O2 -Wall -Wextra -Werror -I../include "../tests/independent/$program.c" \
         -L"$made" -lnorbelath -o "$made/$program"
 done

@@ -15,7 +15,7 @@
  *                   *first                       *second
  *   form, cut,      bytes written                0
  *   sheet
- *   pair            1 for yes, 0 for no          0
+ *   pair            1 for yes, 0 for no          forests compared
  *   table           bytes written                trees
  *   graph, graph    trees                        pairs
  *   choosing,
@@ -24,7 +24,7 @@
  *   support         clades                       bytes written
  *   row             numbers written              0
  *   row text        bytes written                0
- *   row pair        1 for yes, 0 for no          0
+ *   row pair        1 for yes, 0 for no          forests compared
  *   index add       the tree's number            0
  *   index           neighbours                   0
  *   neighbours
@@ -147,7 +147,14 @@ uint8_t norbelath_cut(const uint8_t *text, size_t text_len, uint64_t cut,
                       uint8_t *out, size_t out_len,
                       uint64_t *first, uint64_t *second);
 
-/* Pair call: whether one move makes the tree of `text` that of `other`, of the same kind and a different topology. */
+/*
+ * Pair call: whether one move makes the tree of `text` that of `other`, of the same kind and a different topology; and how
+ * many forests were compared to tell. The cuts of `text`'s tree are gone through in order, up to and including the first
+ * one whose forest the other tree shares, or all of them if there is none. A cut counts one where the other tree has a
+ * node below its root with the clade of the pruned node, and else nothing. So the number is at most 2n - 2 for trees of n
+ * leaves, it is 1 or more where rooted trees are one move apart, and it may be another one with the trees exchanged. It
+ * is 0 for trees of equal topology, and for unrooted trees.
+ */
 uint8_t norbelath_pair(const uint8_t *text, size_t text_len,
                        const uint8_t *other, size_t other_len,
                        uint64_t *first, uint64_t *second);
@@ -231,7 +238,8 @@ uint8_t norbelath_row_text(const uint64_t *row, size_t row_len,
                            uint64_t *first, uint64_t *second);
 
 /*
- * Row pair call: whether one move makes the tree of `row` that of `other`, of the same labels and a different topology.
+ * Row pair call: whether one move makes the tree of `row` that of `other`, of the same labels and a different topology;
+ * and how many forests were compared, the number that the pair call gives for the texts of these trees.
  * A slice that is the row of no tree is refused first, `row` before `other`; then other labels are.
  */
 uint8_t norbelath_row_pair(const uint64_t *row, size_t row_len,

@@ -391,11 +391,11 @@ static void row_text(const char *what, const uint64_t *row, size_t row_len, size
 }
 
 static void row_pair(const char *what, const uint64_t *row, size_t row_len, const uint64_t *other, size_t other_len,
-                     uint8_t result, uint64_t first)
+                     uint8_t result, uint64_t first, uint64_t second)
 {
     struct reply r = {99, 99, 99};
     r.result = norbelath_row_pair(row, row_len, other, other_len, &r.first, &r.second);
-    check(same(r, result, first, 0), "row pair", what, "another answer was expected");
+    check(same(r, result, first, second), "row pair", what, "another answer was expected");
 }
 
 /* A tree in canonical form and its row, in both directions, with just enough lent and with more. */
@@ -727,17 +727,33 @@ static void cuts_of_unrooted_trees(void)
     cut("[&U](1,2,3);", 0, enough - 1, NULL, NORBELATH_SHORT_SLICE, 0);
 }
 
+/* The answer, and the number of forests that were compared; or a refusal. */
 static void pair_answers(void)
 {
-    pair("(((1,2),3),4);", "((1,2),(3,4));", NORBELATH_ACCEPTED, 1, 0);
-    pair("(((1,2),3),4);", "(((3,4),1),2);", NORBELATH_ACCEPTED, 0, 0);
-    pair("((((4,5),1),2),3);", "((((1,2),3),4),5);", NORBELATH_ACCEPTED, 0, 0);
+    /* Cut 0 prunes a clade that the other tree has not, and cut 1 leaves a forest of both; exchanged, cut 0 does. */
+    pair("(((1,2),3),4);", "((1,2),(3,4));", NORBELATH_ACCEPTED, 1, 1);
+    pair("((1,2),(3,4));", "(((1,2),3),4);", NORBELATH_ACCEPTED, 1, 1);
+    /* All leaves, and nothing else that both have. */
+    pair("(((1,2),3),4);", "(((3,4),1),2);", NORBELATH_ACCEPTED, 0, 4);
+    pair("((((4,5),1),2),3);", "((((1,2),3),4),5);", NORBELATH_ACCEPTED, 0, 5);
+    /* Leaf 4 is the last cut of the one tree, and comes behind leaf 1 in the other. */
+    pair("(((1,2),3),4);", "(((1,4),2),3);", NORBELATH_ACCEPTED, 1, 4);
+    pair("(((1,4),2),3);", "(((1,2),3),4);", NORBELATH_ACCEPTED, 1, 2);
+    pair("[&R](4,(3,(2,1)));", "( 3 , ( 2 , ( 04 , 1 ) ) ) ;", NORBELATH_ACCEPTED, 1, 4);
+    /* The same with leaf 5, and (1,2) counts too. */
+    pair("((((1,2),3),4),5);", "((((1,2),5),3),4);", NORBELATH_ACCEPTED, 1, 6);
+    pair("((((1,2),5),3),4);", "((((1,2),3),4),5);", NORBELATH_ACCEPTED, 1, 4);
+    pair("((((1,2),3),4),5);", "(((1,2),(4,5)),3);", NORBELATH_ACCEPTED, 0, 6);
+    /* Equal topologies. */
     pair("((1,2),3);", "(3,(2,1));", NORBELATH_ACCEPTED, 0, 0);
+    pair("(10,2);", "(2,10);", NORBELATH_ACCEPTED, 0, 0);
+    pair("7;", " 7 ;", NORBELATH_ACCEPTED, 0, 0);
     pair("1;x", "x", NORBELATH_WRONG_BYTE, 0, 2);
     pair("1;", "2;x", NORBELATH_WRONG_BYTE, 1, 2);
     pair("1;", " 2 ; ", NORBELATH_LABELS_DIFFER, 1, 3);
 }
 
+/* No forests are counted of unrooted trees. */
 static void unrooted_pair_answers(void)
 {
     pair("[&U]7;", "[&U]7;", NORBELATH_ACCEPTED, 0, 0);
@@ -752,7 +768,7 @@ static void unrooted_pair_answers(void)
     /* The edge is the same, but each side has another cut end. */
     pair("[&U]((1,2),3,((4,5),6));", "[&U]((1,3),2,((4,6),5));", NORBELATH_ACCEPTED, 0, 0);
     /* Rooted, these two are no neighbours; without their roots they are one topology. */
-    pair("(((1,2),3),4);", "(((3,4),1),2);", NORBELATH_ACCEPTED, 0, 0);
+    pair("(((1,2),3),4);", "(((3,4),1),2);", NORBELATH_ACCEPTED, 0, 4);
     pair("[&U](1,2,(3,4));", "[&U]((3,4),1,2);", NORBELATH_ACCEPTED, 0, 0);
 }
 
@@ -1212,7 +1228,18 @@ static void largest_rows(void)
     rows(deepest, deepest, row, 64);
     row_refused(deepest, LONGEST, NORBELATH_ROW - 1, NORBELATH_SHORT_SLICE, 0);
     row_text(deepest, row, 64, NORBELATH_ROW_TEXT_OUT - 1, NULL, NORBELATH_SHORT_SLICE);
-    row_pair("64 leaves twice", row, 64, row, 64, NORBELATH_ACCEPTED, 0);
+    row_pair("64 leaves twice", row, 64, row, 64, NORBELATH_ACCEPTED, 0, 0);
+
+    /*
+     * The comb with leaf 64 hung above 61 of the others. Both have the forest without that leaf alone, which the last cut
+     * of the comb leaves; the 60 smallest forks and all leaves count. In the other tree 62 and 63 come behind leaf 64.
+     */
+    uint64_t moved[64];
+    memcpy(moved, row, sizeof moved);
+    moved[61] = UINT64_MAX >> 3 | UINT64_C(1) << 63;
+    moved[62] = UINT64_MAX >> 2 | UINT64_C(1) << 63;
+    row_pair("the last of 64 leaves is moved", row, 64, moved, 64, NORBELATH_ACCEPTED, 1, 124);
+    row_pair("it is moved back", moved, 64, row, 64, NORBELATH_ACCEPTED, 1, 122);
 
     row[64] = UINT64_MAX;
     row_text("65 numbers", row, 65, NORBELATH_ROW_TEXT_OUT, NULL, NORBELATH_NO_ROW);
@@ -1248,9 +1275,9 @@ static void not_a_row(const char *what, const uint64_t *row, size_t row_len)
 {
     row_text(what, row, row_len, NORBELATH_ROW_TEXT_OUT, NULL, NORBELATH_NO_ROW);
     row_text(what, row, row_len, NORBELATH_ROW_TEXT_OUT - 1, NULL, NORBELATH_SHORT_SLICE);
-    row_pair(what, row, row_len, LIST(7, 3, 7), NORBELATH_NO_ROW, 0);
-    row_pair(what, LIST(7, 3, 7), row, row_len, NORBELATH_NO_ROW, 1);
-    row_pair(what, row, row_len, row, row_len, NORBELATH_NO_ROW, 0);
+    row_pair(what, row, row_len, LIST(7, 3, 7), NORBELATH_NO_ROW, 0, 0);
+    row_pair(what, LIST(7, 3, 7), row, row_len, NORBELATH_NO_ROW, 1, 0);
+    row_pair(what, row, row_len, row, row_len, NORBELATH_NO_ROW, 0, 0);
 }
 
 /* A slice holds one row and nothing more. What lies behind it is not part of it, though it may fit. */
@@ -1282,19 +1309,27 @@ static void slices_that_are_no_rows(void)
 /* The answers of the pair call; then which row is refused first, and other labels last. */
 static void row_pairs(void)
 {
-    row_pair("one move apart", LIST(15, 3, 7, 15), LIST(15, 3, 12, 15), NORBELATH_ACCEPTED, 1);
-    row_pair("not one move apart", LIST(15, 3, 7, 15), LIST(15, 12, 13, 15), NORBELATH_ACCEPTED, 0);
+    row_pair("one move apart", LIST(15, 3, 7, 15), LIST(15, 3, 12, 15), NORBELATH_ACCEPTED, 1, 1);
+    row_pair("the same exchanged", LIST(15, 3, 12, 15), LIST(15, 3, 7, 15), NORBELATH_ACCEPTED, 1, 1);
+    row_pair("not one move apart", LIST(15, 3, 7, 15), LIST(15, 12, 13, 15), NORBELATH_ACCEPTED, 0, 4);
     row_pair("what one keeps the other takes away", LIST(31, 24, 25, 27, 31), LIST(31, 3, 7, 15, 31),
-             NORBELATH_ACCEPTED, 0);
-    row_pair("equal", LIST(7, 3, 7), LIST(7, 3, 7), NORBELATH_ACCEPTED, 0);
-    row_pair("one leaf", LIST(64), LIST(64), NORBELATH_ACCEPTED, 0);
-    row_pair("two leaves", LIST(3, 3), LIST(3, 3), NORBELATH_ACCEPTED, 0);
-    row_pair("other labels", LIST(1), LIST(2), NORBELATH_LABELS_DIFFER, 1);
-    row_pair("a label more", LIST(3, 3), LIST(7, 3, 7), NORBELATH_LABELS_DIFFER, 1);
-    row_pair("another label", LIST(7, 3, 7), LIST(11, 3, 11), NORBELATH_LABELS_DIFFER, 1);
-    row_pair("both no rows", LIST(3), LIST(5), NORBELATH_NO_ROW, 0);
-    row_pair("row 1 is none, and has other labels", LIST(1), LIST(6), NORBELATH_NO_ROW, 1);
-    row_pair("row 0 is none, and has other labels", LIST(6), LIST(1), NORBELATH_NO_ROW, 0);
+             NORBELATH_ACCEPTED, 0, 5);
+    row_pair("leaf 4 is moved", LIST(15, 3, 7, 15), LIST(15, 9, 11, 15), NORBELATH_ACCEPTED, 1, 4);
+    row_pair("leaf 4 is moved back", LIST(15, 9, 11, 15), LIST(15, 3, 7, 15), NORBELATH_ACCEPTED, 1, 2);
+    row_pair("a clade in common, and a move", LIST(31, 3, 7, 15, 31), LIST(31, 3, 19, 23, 31), NORBELATH_ACCEPTED, 1, 6);
+    row_pair("the same back", LIST(31, 3, 19, 23, 31), LIST(31, 3, 7, 15, 31), NORBELATH_ACCEPTED, 1, 4);
+    row_pair("a clade in common, and no move", LIST(31, 3, 7, 15, 31), LIST(31, 3, 24, 27, 31), NORBELATH_ACCEPTED, 0,
+             6);
+    row_pair("the same exchanged", LIST(31, 3, 24, 27, 31), LIST(31, 3, 7, 15, 31), NORBELATH_ACCEPTED, 0, 6);
+    row_pair("equal", LIST(7, 3, 7), LIST(7, 3, 7), NORBELATH_ACCEPTED, 0, 0);
+    row_pair("one leaf", LIST(64), LIST(64), NORBELATH_ACCEPTED, 0, 0);
+    row_pair("two leaves", LIST(3, 3), LIST(3, 3), NORBELATH_ACCEPTED, 0, 0);
+    row_pair("other labels", LIST(1), LIST(2), NORBELATH_LABELS_DIFFER, 1, 0);
+    row_pair("a label more", LIST(3, 3), LIST(7, 3, 7), NORBELATH_LABELS_DIFFER, 1, 0);
+    row_pair("another label", LIST(7, 3, 7), LIST(11, 3, 11), NORBELATH_LABELS_DIFFER, 1, 0);
+    row_pair("both no rows", LIST(3), LIST(5), NORBELATH_NO_ROW, 0, 0);
+    row_pair("row 1 is none, and has other labels", LIST(1), LIST(6), NORBELATH_NO_ROW, 1, 0);
+    row_pair("row 0 is none, and has other labels", LIST(6), LIST(1), NORBELATH_NO_ROW, 0, 0);
 }
 
 /* The neighbours that stand where this is used, and how many they are; or none. */

@@ -1,7 +1,7 @@
 #!/usr/bin/env python3
 """Compare a pair lister with reference.py on generated cases.
 
-    compare.py PROGRAM [--interchanges | --graphs | --support | --rows | --index | --islands]
+    compare.py PROGRAM [--interchanges | --graphs | --support | --rows | --bound | --index | --islands]
                [--seed S] [--count N]
 
 PROGRAM is the path of an executable that reads a table of trees from standard
@@ -10,11 +10,15 @@ program of interchanges.c, and the sheet is that of the interchange call; with
 --graphs that of graphs.c, and the sheet is that of both graph calls; with
 --support that of supports.c, and the sheet is that of the support call; with
 --rows that of rows.c, which makes many calls in one run, and the sheet has a line
-for each; with --index that of index.c, which does so on one memory, and the sheet
-is that of index.py; with --islands it is the program of islands, and the sheet has
-a line for each.  It is run once for each case of generate.py, or with --rows of
-generate_rows.py, or with --index of generate_index.py, and its output must be the
-reference's sheet, byte for byte.  A program that is ended by a signal, or runs
+for each; with --bound that of bounds.c, which does so too, and the sheet is that of
+bound.py, with the number of forests that each pair test compared; with --index that
+of index.c, which does so on one memory, and the sheet is that of index.py; with
+--islands it is the program of islands, and the sheet has a line for each.  It is run
+once for each case of generate.py, or with --rows of generate_rows.py, or with --bound
+of generate_bound.py, or with --index of generate_index.py, and its output must be the
+reference's sheet, byte for byte.  With --bound each number must also be what a pair
+test can give: at most 2n - 2 for trees of n leaves, and 1 or more where they are
+rooted and one move apart.  A program that is ended by a signal, or runs
 longer than the time limit for one case, counts as a mismatch.  Its exit status and
 standard error are shown with a mismatch but not judged, since document 01 says
 nothing about them.  Only where the sheet is empty, which that of islands is for a
@@ -22,13 +26,14 @@ table without trees, the status has to be 0 and standard error empty too: a prog
 that could not read its input leaves its output empty as well.
 
 The exit status is 1 if there was a mismatch, or if one of the refusal numbers
-1, 2, 3, 4, 5, 6, 8 and 10, with --rows 1, 2, 3, 4, 5, 8, 10 and 11, with --index
-1 to 8, 10, 12 and 13, never came up, or if there were too few tables, or calls, of
+1, 2, 3, 4, 5, 6, 8 and 10, with --rows and --bound 1, 2, 3, 4, 5, 8, 10 and 11, with
+--index 1 to 8, 10, 12 and 13, never came up, or if there were too few tables, or calls, of
 a sort that the program can go wrong on, so that the comparison says less than it
 seems to; otherwise 0.  A case can be looked at again by writing the same cases to
 files: `generate.py S N OUTDIR`, with --rooted for the program of interchanges and
 with --support for that of support; `generate_rows.py S N OUTDIR` for that of rows,
-`generate_index.py S N OUTDIR` for that of the index.
+`generate_bound.py S N OUTDIR` for that of bounds, `generate_index.py S N OUTDIR` for
+that of the index.
 """
 
 import argparse
@@ -39,7 +44,9 @@ import subprocess
 import sys
 from typing import Callable, NamedTuple
 
+import bound
 import generate
+import generate_bound
 import generate_index
 import generate_rows
 import index
@@ -161,6 +168,49 @@ ROW_FLOORS = {
     "as many other labels": 200,
 }
 
+# The same for the pair tests of the program of bounds: less than half of what the
+# generator makes.
+BOUND_FLOORS = {
+    # Accepted: as texts and as rows, of equal topology, and unrooted.
+    "texts, yes": 7000,
+    "texts, no": 3000,
+    "rows, yes": 7000,
+    "rows, no": 3000,
+    "equal texts": 600,
+    "equal rows": 700,
+    "unrooted, yes": 300,
+    "unrooted, no": 500,
+    # Refused, whatever the number.
+    "refused texts": 3500,
+    "refused rows": 2000,
+    # Yes: by the number; 2n - 4 is the largest that was met.
+    "yes, 1": 3000,
+    "yes, 2 to 4": 3500,
+    "yes, 5 to 19": 4000,
+    "yes, 20 or more": 1900,
+    "yes, 100 or more": 80,
+    "yes, as many as leaves or more": 4000,
+    "yes, 2n - 4": 500,
+    # Yes: all cuts gone through; a further shared forest behind the first; some of the
+    # cuts that were gone through count nothing, or several of them and all count; some
+    # that would count are not gone through.
+    "yes at the last cut": 1000,
+    "yes, several forests shared": 5000,
+    "yes after cuts that count nothing": 11000,
+    "yes after no such cut": 1000,
+    "yes, clades left over": 13000,
+    # The trees exchanged.
+    "another number in the other order": 6000,
+    # No: without and with a fork of the same clade.
+    "no, leaves only": 3000,
+    "no, forks too": 3000,
+    "no, 100 or more": 170,
+    # By the number of leaves.
+    "large, yes": 2000,
+    "large, no": 1200,
+    "64 leaves": 1100,
+}
+
 # From so many labels on a row is large.
 LARGE = 33
 
@@ -190,7 +240,8 @@ class Subject(NamedTuple):
     output; the cases; the sorts that an accepted table is of, or that calls are
     of, given text and sheet; how many of each sort there have to be in two
     thousand cases; the refusal numbers that have to come up, and those of a sheet;
-    and the calls of a text, where the sheet has a line for each."""
+    the calls of a text, where the sheet has a line for each; and whether a sheet can
+    be right, given text and sheet."""
 
     sheet: Callable
     cases: Callable = generate.cases
@@ -199,6 +250,7 @@ class Subject(NamedTuple):
     refusals: tuple = REFUSALS_OF_THE_LISTER
     refused: Callable = refusals_of_sheet
     calls: Callable = None
+    possible: Callable = lambda text, expected: True
 
 
 def both_kinds(sheet):
@@ -279,6 +331,8 @@ def show_mismatch(name, subject, text, expected, run):
     print("  reference: %s" % shown(expected))
     print("  program:   %s" % shown(run.output))
     print("  %s; %s" % (outputs_compared(expected, run.output), how_it_ended(run.status)))
+    if not subject.possible(text, expected):
+        print("  the reference's sheet cannot be right")
     if run.errors:
         print("  standard error: %s" % shown(run.errors))
 
@@ -441,6 +495,79 @@ def paired_sorts(arguments, line):
     return [answer] + ["large, " + answer] * (is_large(arguments[0]) and answer != "equal")
 
 
+def leaves_of(name, argument):
+    """The number of leaves of a tree that a pair test accepts."""
+    return len(argument) if name == b"rows" else argument.count(b",") + 1
+
+
+def bound_possible(text, expected):
+    """Whether each number of a sheet is at most 2n - 2, and 1 or more for rooted
+    trees that are one move apart."""
+    for (name, arguments), line in zip(bound.bound_calls(text), expected.splitlines()):
+        answer, forests = line.split()[:2]
+        if answer == b"refused":
+            continue
+        unrooted = name == b"texts" and UNROOTED_MARK in arguments[0]
+        least = 1 if answer == b"yes" and not unrooted else 0
+        if not least <= int(forests) <= 2 * leaves_of(name, arguments[0]) - 2:
+            return False
+    return True
+
+
+def bound_sorts(text, expected):
+    """The sorts of BOUND_FLOORS that the pair tests of a case are of, as a list."""
+    return [
+        sort for (name, arguments), line in zip(bound.bound_calls(text), expected.splitlines())
+        for sort in tested_sorts(name, arguments, line)
+    ]
+
+
+def tested_sorts(name, arguments, line):
+    """The sorts of one pair test."""
+    answer, forests = line.decode().split()[:2]
+    if answer == "refused":
+        return ["refused " + name.decode()]
+    if name == b"texts" and UNROOTED_MARK in arguments[0]:
+        return ["unrooted, " + answer]
+    if name == b"rows":
+        clades = [reference.tree_of_row(numbers).clades for numbers in arguments]
+    else:
+        clades = [reference.read_one(written, 0)[0].clades for written in arguments]
+    if clades[0] == clades[1]:
+        return ["equal " + name.decode()]
+    return ["%s, %s" % (name.decode(), answer)] + number_sorts(*clades, answer, int(forests))
+
+
+def number_sorts(clades, others, answer, forests):
+    """The sorts of the number of forests of two different rooted trees."""
+    leaves = len(max(clades, key=len))
+    shared = [shares for _, shares in bound.shared_forests(clades, others)]
+    gone_through = shared.index(True) + 1 if any(shared) else len(shared)
+    forks = [clade for clade in clades & others if 1 < len(clade) < leaves]
+    holds = {
+        "yes, 1": answer == "yes" and forests == 1,
+        "yes, 2 to 4": answer == "yes" and 2 <= forests <= 4,
+        "yes, 5 to 19": answer == "yes" and 5 <= forests <= 19,
+        "yes, 20 or more": answer == "yes" and forests >= 20,
+        "yes, 100 or more": answer == "yes" and forests >= 100,
+        "yes, as many as leaves or more": answer == "yes" and forests >= leaves,
+        "yes, 2n - 4": answer == "yes" and forests == 2 * leaves - 4 and leaves > 3,
+        "yes at the last cut": answer == "yes" and gone_through == len(shared),
+        "yes, several forests shared": sum(shared) > 1,
+        "yes after cuts that count nothing": answer == "yes" and forests < gone_through,
+        "yes after no such cut": answer == "yes" and forests == gone_through > 1,
+        "yes, clades left over": answer == "yes" and forests < leaves + len(forks),
+        "another number in the other order": bound.compared(others, clades).forests != forests,
+        "no, leaves only": answer == "no" and forests == leaves,
+        "no, forks too": answer == "no" and forests > leaves,
+        "no, 100 or more": answer == "no" and forests >= 100,
+        "large, yes": leaves >= LARGE and answer == "yes",
+        "large, no": leaves >= LARGE and answer == "no",
+        "64 leaves": leaves == 64,
+    }
+    return [sort for sort in holds if holds[sort]]
+
+
 def compare(program, subject, seed, count):
     """Run all cases.  Gives the number of mismatches, refusal counts, and how
     many accepted tables, or calls, there were of each sort."""
@@ -456,7 +583,7 @@ def compare(program, subject, seed, count):
             for sort in subject.sorts(text, expected):
                 tables[sort] += 1
         run = run_program(program, text)
-        if not agrees(run, expected):
+        if not agrees(run, expected) or not subject.possible(text, expected):
             mismatches += 1
             if mismatches <= MISMATCHES_SHOWN:
                 show_mismatch(generate.file_name(position, kind), subject, text, expected, run)
@@ -465,6 +592,8 @@ def compare(program, subject, seed, count):
 
 ROWS = Subject(reference.rows_sheet, generate_rows.cases, row_sorts, ROW_FLOORS, REFUSALS_OF_ROWS, refusals_of_lines,
                reference.row_calls)
+BOUND = Subject(bound.bound_sheet, generate_bound.cases, bound_sorts, BOUND_FLOORS, REFUSALS_OF_ROWS, refusals_of_lines,
+                bound.bound_calls, bound_possible)
 INDEX = Subject(index.index_sheet, generate_index.cases, index_sorts.index_sorts, index_sorts.INDEX_FLOORS,
                 REFUSALS_OF_THE_INDEX, refusals_of_lines, index.index_calls)
 
@@ -484,6 +613,8 @@ def main(arguments):
                         help="the program is that of supports.c")
     others.add_argument("--rows", action="store_const", dest="subject", const=ROWS,
                         help="the program is that of rows.c")
+    others.add_argument("--bound", action="store_const", dest="subject", const=BOUND,
+                        help="the program is that of bounds.c")
     others.add_argument("--index", action="store_const", dest="subject", const=INDEX,
                         help="the program is that of index.c")
     others.add_argument("--islands", action="store_const", dest="subject",

@@ -10,8 +10,10 @@
 //! of the table. Islands are found by uniting sets along the listed pairs. For
 //! clade support the label sets of all forks are counted in a hash map. Rows, the
 //! clades of a tree as numbers, are compared without texts: the clades of a forest
-//! are worked out from those of its tree. An index keeps the forest texts of its
-//! trees in a sorted vector, and looks up those of the tree that it is asked for.
+//! are worked out from those of its tree. The pair test also says how many forests
+//! it compared: on texts that is worked out behind the answer, on rows it is
+//! counted on the way. An index keeps the forest texts of its trees in a sorted
+//! vector, and looks up those of the tree that it is asked for.
 //!
 //! Copies are trees of one topology. Merged, only the first of them stands in
 //! pairs; kept apart, each of them does. They are never a pair with each other.
@@ -85,6 +87,19 @@ pub struct Refusal {
     pub place: usize,
 }
 
+/// What the pair test finds: whether two trees are one move apart, and how many
+/// forests it compared.
+///
+/// Those are the first tree's cuts up to and including the first one whose
+/// forest the second tree shares, or all of them; a cut is among them if the
+/// second tree has a node with the clade of the pruned one. For equal topologies
+/// and for unrooted trees the number is 0.
+#[derive(Clone, Copy, Debug, PartialEq, Eq)]
+pub struct Pair {
+    pub apart: bool,
+    pub forests: usize,
+}
+
 /// Pairs (i, j) with i < j in order of i, then j, and the neighbour count of
 /// each tree.
 pub type Listing = (Vec<(u16, u16)>, Vec<u16>);
@@ -137,8 +152,9 @@ pub fn cut(text: &[u8], c: u64) -> Result<Vec<u8>, Refusal> {
         })
 }
 
-/// Whether two trees of one kind are one move apart; equal topologies are not.
-pub fn pair(text0: &[u8], text1: &[u8]) -> Result<bool, Refusal> {
+/// Whether two trees of one kind are one move apart, which equal topologies are
+/// not, and how many forests were compared.
+pub fn pair(text0: &[u8], text1: &[u8]) -> Result<Pair, Refusal> {
     refuse_long_text(text0, 0)?;
     refuse_long_text(text1, 1)?;
     let (first, _) = read_one(text0, 0, Takes::Either)?;
@@ -151,13 +167,35 @@ pub fn pair(text0: &[u8], text1: &[u8]) -> Result<bool, Refusal> {
         });
     }
     if first.canonical_text() == second.canonical_text() {
-        return Ok(false);
+        return Ok(Pair {
+            apart: false,
+            forests: 0,
+        });
     }
-    let forests: HashSet<Vec<u8>> = first.forest_texts().collect();
-    let shared = second
+    let forests: HashSet<Vec<u8>> = second.forest_texts().collect();
+    let shared = first
         .forest_texts()
-        .any(|forest| forests.contains(&forest));
-    Ok(shared)
+        .position(|forest| forests.contains(&forest));
+    let compared = match (&first, &second) {
+        (Tree::Rooted(first), Tree::Rooted(second)) => {
+            let cuts = shared.map_or(first.number_of_cuts(), |cut| cut + 1);
+            forests_compared(first, second, cuts)
+        }
+        _ => 0,
+    };
+    Ok(Pair {
+        apart: shared.is_some(),
+        forests: compared,
+    })
+}
+
+/// How many of the first tree's cuts, of which so many are gone through, prune a
+/// clade that the second tree has too.
+fn forests_compared(first: &Rooted, second: &Rooted, cuts: usize) -> usize {
+    let clades: HashSet<u64> = second.pruned_clades().into_iter().collect();
+    let pruned = first.pruned_clades();
+    let has_too = |clade: &&u64| clades.contains(clade);
+    pruned[..cuts].iter().filter(has_too).count()
 }
 
 /// The canonical texts of a table one after another, and the end of each.
@@ -225,14 +263,15 @@ pub fn row_text(row: &[u64]) -> Result<Vec<u8>, Refusal> {
     Ok(given_row(row, 0)?.canonical_text().to_vec())
 }
 
-/// Whether the trees of two rows are one move apart.
-pub fn row_pair(row: &[u64], other: &[u64]) -> Result<bool, Refusal> {
-    given_row(row, 0)?;
+/// Whether the trees of two rows are one move apart, and how many forests were
+/// compared.
+pub fn row_pair(row: &[u64], other: &[u64]) -> Result<Pair, Refusal> {
+    let tree = given_row(row, 0)?;
     given_row(other, 1)?;
     if row[0] != other[0] {
         return Err(refused_row(OTHER_LABELS, 1));
     }
-    Ok(rows::one_move_apart(row, other))
+    Ok(rows::compared(row, &tree.pruned_clades(), other))
 }
 
 /// The tree of row number `which`.
@@ -311,7 +350,7 @@ fn write_row_sheet(text: &[u8], out: &mut Vec<u8>) -> std::io::Result<()> {
         Err(refusal) => return write_refusal(refusal, out),
     };
     let pairs: Vec<(u16, u16)> = every_two(rows.len())
-        .filter(|&(i, j)| row_pair(&rows[i], &rows[j]) == Ok(true))
+        .filter(|&(i, j)| row_pair(&rows[i], &rows[j]).is_ok_and(|pair| pair.apart))
         .map(|(i, j)| (i as u16, j as u16))
         .collect();
     writeln!(out, "trees {} pairs {}", rows.len(), pairs.len())?;

@@ -74,6 +74,18 @@ impl Rooted {
 
     /// The label sets of all forks, bit `label - 1` for each label.
     pub fn clades(&self) -> Vec<u64> {
+        let mut sets = self.node_clades();
+        sets.retain(|set: &u64| set.count_ones() > 1);
+        sets
+    }
+
+    /// The label set that each cut prunes, in order of the cuts.
+    pub fn pruned_clades(&self) -> Vec<u64> {
+        self.node_clades().split_off(1)
+    }
+
+    /// The label set of each node, the root's first.
+    fn node_clades(&self) -> Vec<u64> {
         let mut sets = vec![0; self.nodes.len()];
         // A node stands before those below it, so a set is complete when it is
         // reached from behind; a leaf's is still empty then.
@@ -85,7 +97,6 @@ impl Rooted {
                 sets[parent] |= sets[index];
             }
         }
-        sets.retain(|set: &u64| set.count_ones() > 1);
         sets
     }
 

@@ -4,10 +4,9 @@
 //! A set of labels has bit `label - 1` for each. Two trees are compared by the
 //! clades of their forests, as numbers.
 
-use std::collections::HashSet;
-
 use crate::rooted::Rooted;
 use crate::tree::Subtree;
+use crate::Pair;
 
 pub fn row_of(tree: &Rooted) -> Vec<u64> {
     let mut clades = tree.clades();
@@ -43,24 +42,29 @@ fn grown(labels: u64, clades: &[u64], forks: &mut usize) -> Option<Subtree> {
     Some(Subtree::fork(first, grown(labels & !child, clades, forks)?))
 }
 
-/// Whether the trees of two rows, which have the same labels, are one move
-/// apart: they differ, and a cut of the one and one of the other leave the same
-/// forest. In both the same clade is pruned then.
-pub fn one_move_apart(row: &[u64], other: &[u64]) -> bool {
-    let cuts: HashSet<u64> = cuts(other).collect();
-    row != other
-        && self::cuts(row)
-            .filter(|cut| cuts.contains(cut))
-            .any(|cut| forest(row, cut) == forest(other, cut))
-}
-
-/// The clades of all nodes but the root.
-fn cuts(row: &[u64]) -> impl Iterator<Item = u64> + '_ {
-    let labels = (0..64).map(|place| 1 << place);
-    labels
-        .filter(move |label| label & row[0] != 0)
-        .chain(row[1..].iter().copied())
-        .filter(move |&clade| clade != row[0])
+/// The pair test on two rows, which have the same labels. `pruned` has the clades
+/// that the cuts of the first tree prune, in order.
+///
+/// The trees are one move apart if they differ, and a cut of the one and one of
+/// the other leave the same forest. In both the same clade is pruned then, so
+/// that only the forests of such two cuts are compared.
+pub fn compared(row: &[u64], pruned: &[u64], other: &[u64]) -> Pair {
+    let mut found = Pair {
+        apart: false,
+        forests: 0,
+    };
+    if row == other {
+        return found;
+    }
+    let in_both = |&&cut: &&u64| cut.count_ones() == 1 || other[1..].binary_search(&cut).is_ok();
+    for &cut in pruned.iter().filter(in_both) {
+        found.forests += 1;
+        if forest(row, cut) == forest(other, cut) {
+            found.apart = true;
+            break;
+        }
+    }
+    found
 }
 
 /// The clades of two or more labels of both parts of a forest, ascending.

@@ -23,6 +23,21 @@ fn listed(pairs: &[(u16, u16)], counts: &[u16], firsts: &[u16]) -> Result<Graph,
     })
 }
 
+/// The answer to two trees that are one move apart, after so many forests.
+fn yes(forests: usize) -> Result<Pair, Refusal> {
+    Ok(Pair {
+        apart: true,
+        forests,
+    })
+}
+
+fn no(forests: usize) -> Result<Pair, Refusal> {
+    Ok(Pair {
+        apart: false,
+        forests,
+    })
+}
+
 /// `(((1,2),3), ...` with the given number of leaves.
 fn left_comb(leaves: usize) -> String {
     let mut tree = String::from("1");
@@ -108,14 +123,53 @@ fn cuts() {
 
 #[test]
 fn pairs() {
-    assert_eq!(pair(b"(((1,2),3),4);", b"((1,2),(3,4));"), Ok(true));
-    assert_eq!(pair(b"(((1,2),3),4);", b"(((3,4),1),2);"), Ok(false));
-    assert_eq!(
-        pair(b"((((4,5),1),2),3);", b"((((1,2),3),4),5);"),
-        Ok(false)
-    );
-    assert_eq!(pair(b"((1,2),3);", b"(3,(2,1));"), Ok(false));
-    assert_eq!(pair(b"1;", b"1;"), Ok(false));
+    assert_eq!(pair(b"(((1,2),3),4);", b"((1,2),(3,4));"), yes(1));
+    assert_eq!(pair(b"(((1,2),3),4);", b"(((3,4),1),2);"), no(4));
+    assert_eq!(pair(b"((((4,5),1),2),3);", b"((((1,2),3),4),5);"), no(5));
+    assert_eq!(pair(b"((1,2),3);", b"(3,(2,1));"), no(0));
+    assert_eq!(pair(b"1;", b"1;"), no(0));
+}
+
+/// The last leaf of the one is moved, and comes earlier in the other; then with
+/// a clade in common, and two trees with one that are no pair.
+#[test]
+fn forests_compared_in_both_orders() {
+    let samples = [
+        ("(((1,2),3),4);", "(((1,4),2),3);", [yes(4), yes(2)]),
+        ("((((1,2),3),4),5);", "((((1,2),5),3),4);", [yes(6), yes(4)]),
+        ("((((1,2),3),4),5);", "(((1,2),(4,5)),3);", [no(6), no(6)]),
+        ("((1,2),(3,4));", "(((1,2),3),4);", [yes(1), yes(1)]),
+    ];
+    for (one, other, expected) in samples {
+        let [one, other] = [one, other].map(str::as_bytes);
+        assert_eq!([pair(one, other), pair(other, one)], expected);
+    }
+}
+
+/// Every two trees of up to five leaves: the number is at most 2n - 2, it is 1 or
+/// more for yes, and for no it is how many clades both have.
+#[test]
+fn numbers_of_forests() {
+    for leaves in 1..=5 {
+        let texts = rooted_topologies(leaves);
+        let clades = |text: &str| -> HashSet<u64> {
+            let row = row(text.as_bytes()).unwrap();
+            row[1..].iter().copied().filter(|&x| x != row[0]).collect()
+        };
+        for one in &texts {
+            for other in &texts {
+                let Pair { apart, forests } = pair(one.as_bytes(), other.as_bytes()).unwrap();
+                assert!(forests <= 2 * leaves - 2);
+                assert!(forests >= usize::from(apart));
+                if one == other {
+                    assert_eq!((apart, forests), (false, 0));
+                } else if !apart {
+                    let both = clades(one).intersection(&clades(other)).count();
+                    assert_eq!(forests, leaves + both);
+                }
+            }
+        }
+    }
 }
 
 #[test]
@@ -257,7 +311,8 @@ fn pairs_by_call(trees: &[&str], positions: &[u16]) -> Listing {
     for &i in positions {
         for &j in positions.iter().filter(|&&j| i < j) {
             let (one, other) = (usize::from(i), usize::from(j));
-            if pair(trees[one].as_bytes(), trees[other].as_bytes()) == Ok(true) {
+            let answer = pair(trees[one].as_bytes(), trees[other].as_bytes());
+            if answer.unwrap().apart {
                 pairs.push((i, j));
                 counts[one] += 1;
                 counts[other] += 1;
@@ -362,7 +417,7 @@ fn trees_joined_by_interchanges() {
             assert_eq!(others.len(), 2 * leaves.saturating_sub(2));
             for other in others {
                 assert_eq!(form(other.as_bytes()), text(&other));
-                assert_eq!(pair(tree.as_bytes(), other.as_bytes()), Ok(true));
+                assert!(pair(tree.as_bytes(), other.as_bytes()).unwrap().apart);
                 assert!(interchanged(&other).contains(&tree));
                 if met.insert(other.clone()) {
                     trees.push(other);
@@ -710,20 +765,20 @@ fn calls_for_rooted_trees_only() {
 #[test]
 fn unrooted_pairs() {
     let pair = |one: &str, other: &str| pair(one.as_bytes(), other.as_bytes());
-    assert_eq!(pair("[&U]7;", "[&U]7;"), Ok(false));
-    assert_eq!(pair("[&U](1,2);", "[&U](2,1);"), Ok(false));
-    assert_eq!(pair("[&U](1,2,3);", "[&U](3,1,2);"), Ok(false));
-    assert_eq!(pair("[&U](1,2,(3,4));", "[&U](1,(2,3),4);"), Ok(true));
+    assert_eq!(pair("[&U]7;", "[&U]7;"), no(0));
+    assert_eq!(pair("[&U](1,2);", "[&U](2,1);"), no(0));
+    assert_eq!(pair("[&U](1,2,3);", "[&U](3,1,2);"), no(0));
+    assert_eq!(pair("[&U](1,2,(3,4));", "[&U](1,(2,3),4);"), yes(0));
     let one = "[&U](1,2,(3,(4,5)));";
-    assert_eq!(pair(one, "[&U](1,4,(3,(2,5)));"), Ok(false));
-    assert_eq!(pair(one, "[&U](1,(2,3),(4,5));"), Ok(true));
+    assert_eq!(pair(one, "[&U](1,4,(3,(2,5)));"), no(0));
+    assert_eq!(pair(one, "[&U](1,(2,3),(4,5));"), yes(0));
     // Only the side with the smallest label can be the moved one.
     let (one, other) = ("[&U](1,2,(3,(4,(5,6))));", "[&U](1,2,(((3,4),5),6));");
-    assert_eq!(pair(one, other), Ok(true));
-    assert_eq!(pair(other, one), Ok(true));
+    assert_eq!(pair(one, other), yes(0));
+    assert_eq!(pair(other, one), yes(0));
     // The cut is at the same place, but the side that moves has other ends.
     let (one, other) = ("[&U]((1,2),3,((4,5),6));", "[&U]((1,3),2,((4,6),5));");
-    assert_eq!(pair(one, other), Ok(false));
+    assert_eq!(pair(one, other), no(0));
 }
 
 /// An unrooted tree, three nodes in brackets and labels up to 9, with one leaf
@@ -859,7 +914,7 @@ fn pairs_of_rows() {
             let rows = [one, other].map(|x| row(x.as_bytes()).unwrap());
             let answer = row_pair(&rows[0], &rows[1]);
             assert_eq!(answer, pair(one.as_bytes(), other.as_bytes()));
-            yes += usize::from(answer == Ok(true));
+            yes += usize::from(answer.unwrap().apart);
         }
     }
     assert_eq!((texts.len(), yes > 1_000), (105, true));
@@ -879,7 +934,7 @@ fn order_of_the_row_pairs_refusals() {
     assert_eq!(row_pair(&[1], &[]), refused(NO_ROW, 1));
     assert_eq!(row_pair(&[1], &[2]), refused(OTHER_LABELS, 1));
     assert_eq!(row_pair(&[1], &[3, 3]), refused(OTHER_LABELS, 1));
-    assert_eq!(row_pair(&[3, 3], &[3, 3]), Ok(false));
+    assert_eq!(row_pair(&[3, 3], &[3, 3]), no(0));
 }
 
 #[test]

@@ -16,7 +16,7 @@
 //!
 //! A rooted tree can also be held as its row of numbers: its label set, then its clades of two or more labels in
 //! ascending order, with bit L − 1 set for each label L. [`row`] and [`row_text`] turn texts into rows and back, and
-//! [`row_pair`] compares two rows.
+//! [`row_pair`] is [`pair`] on two rows.
 //!
 //! Rooted trees that arrive singly are added to an [`Index`], which gives each a number and lists the neighbours of any
 //! of them. A tree that is removed leaves its number to a later one.
@@ -24,9 +24,11 @@
 //! ```
 //! assert_eq!(norbelath::form(b"(3,(2,1));").unwrap(), b"((1,2),3);");
 //! assert_eq!(norbelath::cut(b"((1,2),(3,4));", 0).unwrap(), b"(3,4) (1,2);");
-//! assert_eq!(norbelath::pair(b"(((1,2),3),4);", b"((1,2),(3,4));"), Ok(true));
+//! let pair = norbelath::pair(b"(((1,2),3),4);", b"(((1,4),2),3);").unwrap();
+//! assert_eq!((pair.apart, pair.forests), (true, 4));
 //! assert_eq!(norbelath::form(b"[&U](4,(2,1),3);").unwrap(), b"[&U](1,2,(3,4));");
-//! assert_eq!(norbelath::pair(b"[&U](1,2,(3,4));", b"[&U](1,(2,3),4);"), Ok(true));
+//! let pair = norbelath::pair(b"[&U](1,2,(3,4));", b"[&U](1,(2,3),4);").unwrap();
+//! assert_eq!((pair.apart, pair.forests), (true, 0));
 //! let trees = b"((1,2),3); (1,(2,3)); (3,(2,1));";
 //! let graph = norbelath::graph(trees).unwrap();
 //! assert_eq!(graph.pairs, [(0, 1)]);
@@ -46,7 +48,8 @@
 //! let row = norbelath::row(b"(1,(3,2));").unwrap();
 //! assert_eq!(row, [0b111, 0b110, 0b111]);
 //! assert_eq!(norbelath::row_text(&row).unwrap(), b"(1,(2,3));");
-//! assert_eq!(norbelath::row_pair(&row, &[0b111, 0b011, 0b111]), Ok(true));
+//! let pair = norbelath::row_pair(&row, &[0b111, 0b011, 0b111]).unwrap();
+//! assert_eq!((pair.apart, pair.forests), (true, 1));
 //! let mut index = norbelath::Index::new();
 //! assert_eq!(index.add(b"((1,2),3);"), Ok(0));
 //! assert_eq!(index.add(b"(1,(2,3));"), Ok(1));
@@ -360,6 +363,14 @@ impl fmt::Display for Refusal {
 
 impl Error for Refusal {}
 
+/// What [`pair`] and [`row_pair`] give: whether one move makes the first tree the second, and how many forests were
+/// compared to tell.
+#[derive(Clone, Copy, Debug, PartialEq, Eq)]
+pub struct Pair {
+    pub apart: bool,
+    pub forests: usize,
+}
+
 /// How much [`table_into`] wrote.
 #[derive(Clone, Copy, Debug, PartialEq, Eq)]
 pub struct TableSize {
@@ -575,13 +586,29 @@ pub fn cut_into(text: &[u8], cut: u64, out: &mut [u8]) -> Result<usize, Refusal>
     Ok(bytes)
 }
 
-/// Whether one move makes the tree of `text` that of `other`, of the same kind and a different topology.
+/// Whether one move makes the tree of `text` that of `other`, of the same kind and a different topology, and how many
+/// forests were compared to tell.
 ///
 /// One move of a rooted tree takes the subtree at a node away and hangs it on an edge of the rest, or above its root.
 /// One move of an unrooted tree cuts an edge and joins one side, by its cut end, to an edge of the other; either side
 /// may be the one that is moved.
-pub fn pair(text: &[u8], other: &[u8]) -> Result<bool, Refusal> {
-    let (yes, _) = answer(|first, second| unsafe {
+///
+/// For the number of forests the cuts of `text`'s tree are gone through in order, up to and including the first one
+/// whose forest the other tree shares, or all of them if there is none. A cut counts one where the other tree has a
+/// node below its root with the clade of the pruned node, and else nothing. So the number is at most 2n − 2 for trees
+/// of n leaves, it is 1 or more for rooted trees that are one move apart, and it may be another one with the trees
+/// exchanged. It is 0 for trees of equal topology, and for unrooted trees.
+///
+/// ```
+/// let [one, other] = [b"(((1,2),3),4);", b"(((1,4),2),3);"];
+/// // Only the cut of leaf 4 leaves a forest that both have, ((1,2),3) and 4. The cuts of 1, 2 and 3 come before it in
+/// // the first tree, and in the second only that of 1.
+/// assert_eq!(norbelath::pair(one, other)?.forests, 4);
+/// assert_eq!(norbelath::pair(other, one)?.forests, 2);
+/// # Ok::<(), norbelath::Refusal>(())
+/// ```
+pub fn pair(text: &[u8], other: &[u8]) -> Result<Pair, Refusal> {
+    compared(|first, second| unsafe {
         norbelath_pair(
             text.as_ptr(),
             text.len(),
@@ -590,8 +617,16 @@ pub fn pair(text: &[u8], other: &[u8]) -> Result<bool, Refusal> {
             first,
             second,
         )
-    })?;
-    Ok(yes == 1)
+    })
+}
+
+/// Makes a pair test.
+fn compared(call: impl FnOnce(&mut u64, &mut u64) -> u8) -> Result<Pair, Refusal> {
+    let (yes, forests) = answer(call)?;
+    Ok(Pair {
+        apart: yes == 1,
+        forests,
+    })
 }
 
 /// Writes the canonical texts of a text's trees into `texts`, one after another, of at least [`TABLE_TEXTS`] bytes, and
@@ -778,13 +813,13 @@ pub fn row_text_into(row: &[u64], out: &mut [u8]) -> Result<usize, Refusal> {
     Ok(bytes)
 }
 
-/// Whether one move makes the tree of `row` that of `other`, of the same labels and a different topology, as [`pair`]
-/// tells of two texts.
+/// Whether one move makes the tree of `row` that of `other`, of the same labels and a different topology, and how many
+/// forests were compared to tell, as [`pair`] does for the texts of these trees.
 ///
 /// A slice that is the row of no tree is refused first, `row` before `other`, and then other labels are. In a refusal
 /// `text` says which of the two it is.
-pub fn row_pair(row: &[u64], other: &[u64]) -> Result<bool, Refusal> {
-    let (yes, _) = answer(|first, second| unsafe {
+pub fn row_pair(row: &[u64], other: &[u64]) -> Result<Pair, Refusal> {
+    compared(|first, second| unsafe {
         norbelath_row_pair(
             row.as_ptr(),
             row.len(),
@@ -793,8 +828,7 @@ pub fn row_pair(row: &[u64], other: &[u64]) -> Result<bool, Refusal> {
             first,
             second,
         )
-    })?;
-    Ok(yes == 1)
+    })
 }
 
 /// Adds a text's one tree, a rooted one, to the index in `memory`, of at least [`INDEX_BYTES`] bytes; zeros are the

@@ -1,9 +1,10 @@
 -- The promise of each of these calls determines its answer and the lent memory at exit.
 -- Assumes nothing.
 use mathlib.Core.Path.{_≡_, refl, sym, ap, ap₂, _∙_}
+use mathlib.Core.Bool.{Bool, true, false}
 use mathlib.Core.List.{List}
 use Prim.Native.Nat.{ℕ}
-use Rattle.meaning.specs.Answer.{Outcome, TableSize, TableMemory}
+use Rattle.meaning.specs.Answer.{Answer, accepted, refusal, Outcome, Comparison, TableSize, TableMemory}
 use Rattle.meaning.specs.Calls.{formCall, cutCall, PairCall, tableCall}
 use Rattle.meaning.proofs.Determined.{pair-determined}
 use Rattle.meaning.proofs.Logic.{clash}
@@ -53,15 +54,29 @@ table-call-determined s memory {r} {r′} e f =
     )
 
 -- the pair call
+abbrev told-yes : Answer Comparison → Bool
+told-yes (accepted r) = r .yes
+told-yes (refusal n i p) = false
+
+yes-is-no : true ≡ false → ⊥
+yes-is-no e = clash cc
+
+same-forests : {b : Bool} {n m : ℕ} → _≡_ {A = Answer Comparison} (accepted (record { yes = b; forests = n })) (accepted (record { yes = b; forests = m })) → n ≡ m
+same-forests {n} e = ap forests-of e
+  where
+    forests-of : Answer Comparison → ℕ
+    forests-of (accepted r) = r .forests
+    forests-of (refusal k i p) = n
+
 pub pair-one : (r r′ : PairAnswer) → pairAnswer r ≡ pairAnswer r′ → r ≡ r′
-pair-one pair.Yes pair.Yes e = refl
-pair-one pair.Yes pair.No e = clash cc
-pair-one pair.Yes (pair.Refused y) e = clash cc
-pair-one pair.No pair.Yes e = clash cc
-pair-one pair.No pair.No e = refl
-pair-one pair.No (pair.Refused y) e = clash cc
-pair-one (pair.Refused x) pair.Yes e = clash cc
-pair-one (pair.Refused x) pair.No e = clash cc
+pair-one (pair.Yes n) (pair.Yes m) e = ap pair.Yes (same-forests e)
+pair-one (pair.Yes n) (pair.No m) e = absurd (yes-is-no (ap told-yes e))
+pair-one (pair.Yes n) (pair.Refused y) e = clash cc
+pair-one (pair.No n) (pair.Yes m) e = absurd (yes-is-no (ap told-yes (sym e)))
+pair-one (pair.No n) (pair.No m) e = ap pair.No (same-forests e)
+pair-one (pair.No n) (pair.Refused y) e = clash cc
+pair-one (pair.Refused x) (pair.Yes m) e = clash cc
+pair-one (pair.Refused x) (pair.No m) e = clash cc
 pair-one (pair.Refused x) (pair.Refused y) e = ap pair.Refused (refusal-one e)
 
 pub pair-call-determined : {s s′ : List ℕ} (r r′ : PairAnswer) → PairCall s s′ (pairAnswer r) → PairCall s s′ (pairAnswer r′) → r ≡ r′

@@ -1,10 +1,11 @@
 -- The answers of the public calls on one tree, on two, and on the texts of a table, in document 01's numbers and values.
 -- Assumes nothing.
-use mathlib.Core.Bool.{Bool, true, false}
+use mathlib.Core.Bool.{true, false}
 use mathlib.Core.List.{List}
 use Prim.Native.Nat.{ℕ}
-use Rattle.meaning.specs.Answer.{Answer, accepted, Outcome, TableSize, TableMemory}
+use Rattle.meaning.specs.Answer.{Answer, accepted, Outcome, Comparison, TableSize, TableMemory}
 use Rattle.reading.specs.Paper.{refusalOf}
+use Rattle.pairs.specs.declared.Comparison.{Comparison as Told}
 use Rattle.calls.specs.declared.TextAnswer.{TextAnswer}
 use Rattle.calls.specs.declared.TextAnswer.the-variants.{Written, Refused}
 use Rattle.calls.specs.declared.PairAnswer.{PairAnswer}
@@ -21,11 +22,15 @@ textAnswer (Refused x) = refusalOf x
 abbrev pub textOutcome : TextAnswer → List ℕ → Outcome ℕ (List ℕ)
 textOutcome r out = record { answer = textAnswer r; memory = out }
 
--- the pair call: yes or no
-abbrev pub pairAnswer : PairAnswer → Answer Bool
-pairAnswer pair.Yes = accepted true
-pairAnswer pair.No = accepted false
+-- the pair call: yes or no, and how many forests were compared
+abbrev pub pairAnswer : PairAnswer → Answer Comparison
+pairAnswer (pair.Yes n) = accepted (record { yes = true; forests = n })
+pairAnswer (pair.No n) = accepted (record { yes = false; forests = n })
 pairAnswer (pair.Refused x) = refusalOf x
+
+-- what a test of two trees told
+abbrev pub comparisonOf : Told → Comparison
+comparisonOf told = record { yes = told .yes; forests = told .forests }
 
 -- the table call: the bytes written, and the trees
 abbrev pub tableAnswer : TableAnswer → Answer TableSize

@@ -4,6 +4,7 @@ use held::Kind;
 use held::Table;
 use held::Tree;
 use lent::enough;
+use pairs::Comparison;
 use reading::Refusal;
 use reading::Step;
 use reading::Takes;
@@ -12,15 +13,14 @@ ghost use Prim.Native.Nat.{_≤_};
 ghost use lib.ListN.{length};
 ghost use Rattle.meaning.specs.Tree.{Tree as Topology};
 ghost use Rattle.meaning.specs.Kind.{Kinded, either};
-ghost use Rattle.meaning.specs.EitherKind.{ApartAs};
 ghost use Rattle.meaning.specs.Reading.{got, readTree};
+ghost use Rattle.meaning.specs.Answer.{accepted};
 ghost use Rattle.meaning.specs.Calls.{formCall, cutCall, beside, PairCall, tableCall};
 ghost use Rattle.held.specs.Held.{nodes};
-ghost use Rattle.lent.specs.Runs.{Says};
 ghost use Rattle.held.specs.Kept.{Keeps, KeepsKind, KeptKind};
-ghost use Rattle.calls.specs.Paper.{textOutcome, pairAnswer, tableOutcome};
+ghost use Rattle.calls.specs.Paper.{textOutcome, comparisonOf, pairAnswer, tableOutcome};
 ghost use Rattle.calls.specs.Cuts.{CutRoom, cutText};
-ghost use Rattle.calls.specs.Paired.{Answers};
+ghost use Rattle.calls.specs.Paired.{TestedAs, Answers};
 ghost use Rattle.calls.specs.Tabled.{textSlices, TableRoom, TableWritten};
 
 // What a call that writes a text answers: its bytes, or why it refuses.
@@ -77,24 +77,37 @@ pub fn cut_call(s: &[u8], cut: usize, out: &mut [u8]) -> TextAnswer
     }
 }
 
-// What the pair call answers: one move apart or not, or why it refuses.
+// What the pair call answers: one move apart or not, with how many forests it compared; or why it refuses.
 pub enum PairAnswer {
-    Yes,
-    No,
+    Yes(usize),
+    No(usize),
     Refused(Refusal),
 }
 
-// Whether two trees of one kind are one move apart.
-fn one_move_apart(first: Tree, second: Tree) -> bool
+// The answer for two trees that were compared.
+pub fn pair_answer(told: Comparison) -> PairAnswer
+    ensures { λ r. ⌜ pairAnswer r ≡ accepted (comparisonOf told) ⌝ }
+{
+    if told.yes {
+        PairAnswer::Yes(told.forests)
+    } else {
+        PairAnswer::No(told.forests)
+    }
+}
+
+// Whether two trees of one kind are one move apart. For unrooted ones no forest is counted.
+fn one_move_apart(first: Tree, second: Tree) -> Comparison
     requires { ⌜ KeptKind first × KeptKind second ⌝ }
     ensures { λ r. ⌜
-        ((x y : Kinded) → KeepsKind first x → KeepsKind second y → x .kind ≡ y .kind
-        → Says r (ApartAs (x .kind) (x .tree) (y .tree))) ⌝ }
+        ((x y : Kinded) → KeepsKind first x → KeepsKind second y → x .kind ≡ y .kind → TestedAs x y r) ⌝ }
 {
     let kind = first.kind;
     match kind {
         Kind::Rooted => pairs::one_move_apart(first, second),
-        Kind::Unrooted => unrooted::one_move_apart(first, second),
+        Kind::Unrooted => Comparison {
+            yes: unrooted::one_move_apart(first, second),
+            forests: 0,
+        },
     }
 }
 
@@ -111,11 +124,7 @@ fn compare(first: Tree, second: Tree, behind: usize) -> PairAnswer
             place: behind - 1,
         });
     }
-    if one_move_apart(first, second) {
-        PairAnswer::Yes
-    } else {
-        PairAnswer::No
-    }
+    pair_answer(one_move_apart(first, second))
 }
 
 // A refusal of the one tree of text 1.
@@ -142,7 +151,8 @@ fn compare_with_text(first: Tree, s: &[u8]) -> PairAnswer
     }
 }
 
-// Pair call: whether one move makes the tree of text 0 that of text 1, and their topologies differ.
+// Pair call: whether one move makes the tree of text 0 that of text 1, and their topologies differ; with how many forests were
+// compared to tell.
 pub fn pair_call(first: &[u8], second: &[u8]) -> PairAnswer
     ensures { λ r. ⌜ PairCall (now (first .entry)) (now (second .entry)) (pairAnswer r) ⌝ }
 {

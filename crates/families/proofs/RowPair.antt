@@ -15,10 +15,11 @@ use Rattle.meaning.specs.EitherKind.{ApartAs, canonKinded}
 use Rattle.meaning.specs.Clade.{clade}
 use Rattle.meaning.specs.Move.{Apart}
 use Rattle.meaning.specs.Decide.{apart?}
-use Rattle.meaning.specs.Answer.{Answer, accepted, refusal, onward}
+use Rattle.meaning.specs.Compared.{compared, comparison}
+use Rattle.meaning.specs.Answer.{Answer, accepted, refusal, Comparison, onward}
 use Rattle.meaning.specs.Reading.{Read, unlike}
 use Rattle.meaning.specs.Calls.{answered, together, beside, pairRead, PairCall}
-use Rattle.meaning.proofs.Logic.{cases}
+use Rattle.meaning.proofs.Logic.{clash, cases}
 use Rattle.meaning.proofs.Lists.{one-of}
 use Rattle.meaning.proofs.Canon.{canon-good, canon-topology}
 use Rattle.meaning.proofs.Same.{topology-sym}
@@ -28,6 +29,7 @@ use Rattle.meaning.proofs.Clade.{clade-iff}
 use Rattle.meaning.proofs.Alike.{unlike-iff, unlike-five}
 use Rattle.meaning.proofs.Round.{read-form}
 use Rattle.meaning.proofs.Decide.{apart-iff}
+use Rattle.meaning.proofs.Compared.{compared-topology}
 use Rattle.meaning.proofs.Lent.{in-limit}
 use Rattle.meaning.proofs.Calls.{Tells, accepts, denies, tells-accepted, onward-tells}
 use Rattle.meaning.proofs.Determined.{same-accepted, not-both, same-refusal}
@@ -36,6 +38,10 @@ use Rattle.families.specs.RowCalls.{rowGiven, alikeRows, rowsRead, RowPa
 use Rattle.families.specs.RowRefusals.{rowPairRefusals}
 use Rattle.families.proofs.Row.{row-is-row, row-tree-clade, tree-row-tree}
 use Rattle.families.proofs.RowCalls.{TreeOf, NoTree, given-row, given-none, given-tells}
+
+-- what is told of two trees, where b says whether they are one move apart
+abbrev told : Bool → (t : Tree) × Tree → Comparison
+told b x = record { yes = b; forests = compared (x .0) (x .1) }
 
 -- ---- what is accepted: the trees of both rows, with one label set
 pub record Rows (xs ys : List ℕ) (x : (t : Tree) × Tree) : Type 0 where
@@ -89,14 +95,14 @@ module _ (xs ys : List ℕ) where
       rows-accepted e = both-rows ∙ rw (eq-eqb (getD xs 0 0) (getD ys 0 0) e)
 
   -- ---- any two slices have an answer
-  pub row-pair-exists : (a : Answer Bool) × RowPairCall xs ys a
+  pub row-pair-exists : (a : Answer Comparison) × RowPairCall xs ys a
   row-pair-exists = go (rowsRead xs ys) refl
     where
-      decided : (t u : Tree) → rowsRead xs ys ≡ accepted (t, u) → (b : Bool) → apart? t u ≡ b → T (apart? t u) ↔ Apart t u → (a : Answer Bool) × RowPairCall xs ys a
-      decided t u e true q i = (accepted true, is-apart t u e (i .0 (subst T (sym q) tt)))
-      decided t u e false q i = (accepted false, not-apart t u e (λ a. subst T q (i .1 a)))
+      decided : (t u : Tree) → rowsRead xs ys ≡ accepted (t, u) → (b : Bool) → apart? t u ≡ b → T (apart? t u) ↔ Apart t u → (a : Answer Comparison) × RowPairCall xs ys a
+      decided t u e true q i = (accepted (told true (t, u)), is-apart t u e (i .0 (subst T (sym q) tt)))
+      decided t u e false q i = (accepted (told false (t, u)), not-apart t u e (λ a. subst T q (i .1 a)))
 
-      go : (a : Answer ((t : Tree) × Tree)) → rowsRead xs ys ≡ a → (a : Answer Bool) × RowPairCall xs ys a
+      go : (a : Answer ((t : Tree) × Tree)) → rowsRead xs ys ≡ a → (a : Answer Comparison) × RowPairCall xs ys a
       go (accepted x) e =
           let r = tells-accepted rows-tells e in
           decided (x .0) (x .1) e (apart? (x .0) (x .1)) refl (apart-iff (x .0) (x .1) (r .first .good .distinct) (r .second .good .distinct))
@@ -109,12 +115,15 @@ ApartPair x = Apart (x .0) (x .1)
 apart-and-not : {a : Answer ((t : Tree) × Tree)} {x y : (t : Tree) × Tree} → a ≡ accepted x → a ≡ accepted y → ApartPair x → ¬ ApartPair y → ⊥
 apart-and-not e f h k = k (subst ApartPair (same-accepted e f) h)
 
-pub row-pair-determined : {xs ys : List ℕ} {a b : Answer Bool} → RowPairCall xs ys a → RowPairCall xs ys b → a ≡ b
-row-pair-determined (is-apart t u e h) (is-apart t′ u′ e′ h′) = refl
+same-told : (b : Bool) {a : Answer ((t : Tree) × Tree)} {x y : (t : Tree) × Tree} → a ≡ accepted x → a ≡ accepted y → _≡_ {A = Answer Comparison} (accepted (told b x)) (accepted (told b y))
+same-told b e f = ap (λ (x : (t : Tree) × Tree). accepted (told b x)) (same-accepted e f)
+
+pub row-pair-determined : {xs ys : List ℕ} {a b : Answer Comparison} → RowPairCall xs ys a → RowPairCall xs ys b → a ≡ b
+row-pair-determined (is-apart t u e h) (is-apart t′ u′ e′ h′) = same-told true e e′
 row-pair-determined (is-apart t u e h) (not-apart t′ u′ e′ h′) = absurd (apart-and-not e e′ h h′)
 row-pair-determined (is-apart t u e h) (refuses n i p e′) = absurd (not-both e e′)
 row-pair-determined (not-apart t u e h) (is-apart t′ u′ e′ h′) = absurd (apart-and-not e′ e h′ h)
-row-pair-determined (not-apart t u e h) (not-apart t′ u′ e′ h′) = refl
+row-pair-determined (not-apart t u e h) (not-apart t′ u′ e′ h′) = same-told false e e′
 row-pair-determined (not-apart t u e h) (refuses n i p e′) = absurd (not-both e e′)
 row-pair-determined (refuses n i p e) (is-apart t′ u′ e′ h′) = absurd (not-both e′ e)
 row-pair-determined (refuses n i p e) (not-apart t′ u′ e′ h′) = absurd (not-both e′ e)
@@ -161,19 +170,26 @@ module _ (t u : Tree) (G : Good t) (H : Good u) where
       go true e f g = accept (rows-read ∙ rw e) (texts-read ∙ rw (unlike-iff x y .1 (record { kinds = refl; labels = f refl })))
       go false e f g = refuse (g refl) (rows-read ∙ rw e) (texts-read ∙ rw (unlike-five x y refl (g refl)))
 
-  -- the same answer
-  pub pair-agrees : (b : Bool) → RowPairCall (row t) (row u) (accepted b) ↔ PairCall (form t) (form u) (accepted b)
-  pair-agrees b = (to both-read, back both-read)
+  -- the same answer, and the same number of forests
+  pub pair-agrees : (r : Comparison) → RowPairCall (row t) (row u) (accepted r) ↔ PairCall (form t) (form u) (accepted r)
+  pair-agrees r = (to both-read, back both-read)
     where
-      to : {b : Bool} → BothRead t u → RowPairCall (row t) (row u) (accepted b) → PairCall (form t) (form u) (accepted b)
-      to (accept f g) (is-apart v w e h) = PairCall.is-apart x y g (subst ApartPair (same-accepted e f) h)
-      to (accept f g) (not-apart v w e h) = PairCall.not-apart x y g (λ k. h (subst ApartPair (same-accepted f e) k))
+      -- what is told of the trees that a call read is told of the canonical forms
+      as-rows : (b : Bool) {a : Answer ((t : Tree) × Tree)} {v w : Tree} → a ≡ accepted (v, w) → a ≡ accepted (canon t, canon u) → told b (v, w) ≡ told b (canon t, canon u)
+      as-rows b e f = ap (told b) (same-accepted e f)
+
+      as-texts : (b : Bool) {a : Answer ((x : Kinded) × Kinded)} {v w : Kinded} → a ≡ accepted (v, w) → a ≡ accepted (x, y) → comparison b v w ≡ told b (canon t, canon u)
+      as-texts b e f = ap (λ (z : (x : Kinded) × Kinded). comparison b (z .0) (z .1)) (same-accepted e f)
+
+      to : {r : Comparison} → BothRead t u → RowPairCall (row t) (row u) (accepted r) → PairCall (form t) (form u) (accepted r)
+      to (accept f g) (is-apart v w e h) = rw (as-rows true e f) (PairCall.is-apart x y g (subst ApartPair (same-accepted e f) h))
+      to (accept f g) (not-apart v w e h) = rw (as-rows false e f) (PairCall.not-apart x y g (λ k. h (subst ApartPair (same-accepted f e) k)))
       to (refuse n f g) (is-apart v w e h) = absurd (not-both e f)
       to (refuse n f g) (not-apart v w e h) = absurd (not-both e f)
 
-      back : {b : Bool} → BothRead t u → PairCall (form t) (form u) (accepted b) → RowPairCall (row t) (row u) (accepted b)
-      back (accept f g) (PairCall.is-apart v w e h) = is-apart (canon t) (canon u) f (subst ApartKinded (same-accepted e g) h)
-      back (accept f g) (PairCall.not-apart v w e h) = not-apart (canon t) (canon u) f (λ k. h (subst ApartKinded (same-accepted g e) k))
+      back : {r : Comparison} → BothRead t u → PairCall (form t) (form u) (accepted r) → RowPairCall (row t) (row u) (accepted r)
+      back (accept f g) (PairCall.is-apart v w e h) = rw (as-texts true e g) (is-apart (canon t) (canon u) f (subst ApartKinded (same-accepted e g) h))
+      back (accept f g) (PairCall.not-apart v w e h) = rw (as-texts false e g) (not-apart (canon t) (canon u) f (λ k. h (subst ApartKinded (same-accepted g e) k)))
       back (refuse n f g) (PairCall.is-apart v w e h) = absurd (not-both e g)
       back (refuse n f g) (PairCall.not-apart v w e h) = absurd (not-both e g)
 
@@ -190,9 +206,14 @@ module _ (t u : Tree) (G : Good t) (H : Good u) where
       back (refuse d f g) r = refuses 5 1 0 f
 
   -- yes exactly for neighbours
-  pub row-pair-yes : RowPairCall (row t) (row u) (accepted true) ↔ Apart t u
-  row-pair-yes = (to both-read, back both-read)
+  pub row-pair-yes : RowPairCall (row t) (row u) (accepted (told true (t, u))) ↔ Apart t u
+  row-pair-yes = (to refl both-read, back both-read)
     where
+      canon-told : told true (t, u) ≡ told true (canon t, canon u)
+      canon-told =
+          ap (λ (n : ℕ). record { yes = true; forests = n })
+          (compared-topology (G .distinct) (canon-good G .distinct) (H .distinct) (canon-good H .distinct) (topology-sym (canon-topology t)) (topology-sym (canon-topology u)))
+
       canon-apart : Apart (canon t) (canon u) ↔ Apart t u
       canon-apart =
           let D = G .distinct in
@@ -203,10 +224,12 @@ module _ (t u : Tree) (G : Good t) (H : Good u) where
             apart-topology D D′ E E′ (topology-sym (canon-topology t)) (topology-sym (canon-topology u)),
           )
 
-      to : BothRead t u → RowPairCall (row t) (row u) (accepted true) → Apart t u
-      to (accept f g) (is-apart v w e h) = canon-apart .0 (subst ApartPair (same-accepted e f) h)
-      to (refuse n f g) (is-apart v w e h) = absurd (not-both e f)
+      to : {r : Comparison} → r .yes ≡ true → BothRead t u → RowPairCall (row t) (row u) (accepted r) → Apart t u
+      to i (accept f g) (is-apart v w e h) = canon-apart .0 (subst ApartPair (same-accepted e f) h)
+      to i (accept f g) (not-apart v w e h) = clash cc
+      to i (refuse n f g) (is-apart v w e h) = absurd (not-both e f)
+      to i (refuse n f g) (not-apart v w e h) = absurd (not-both e f)
 
-      back : BothRead t u → Apart t u → RowPairCall (row t) (row u) (accepted true)
-      back (accept f g) a = is-apart (canon t) (canon u) f (canon-apart .1 a)
+      back : BothRead t u → Apart t u → RowPairCall (row t) (row u) (accepted (told true (t, u)))
+      back (accept f g) a = rw canon-told (is-apart (canon t) (canon u) f (canon-apart .1 a))
       back (refuse n f g) a = absurd (n (move-labels (canon-apart .1 a .1)))

@@ -7,7 +7,7 @@ use Prim.Native.Nat.{ℕ}
 use lib.Count.{onesIn, trailingZeros}
 use lib.ListN.{replicate}
 use Rattle.meaning.specs.Bytes.{bytes}
-use Rattle.meaning.specs.Lists.{member}
+use Rattle.meaning.specs.Lists.{member, within}
 use Rattle.meaning.specs.Tree.{Tree, leaf, fork}
 use Rattle.meaning.specs.Reading.{isBlank, isDigit, lead, past, valueAfter, value, token, badLabel, labelAt, forkAt, nodeAt, readNode, exactly}
 use Rattle.meaning.specs.Reading.{letterAt, markAt, twoLabels, thirdAt, threeAt, topAt, treeAt, readTree}
@@ -115,10 +115,10 @@ first = fork (fork (leaf 1) (leaf 2)) (leaf 3)
 abbrev second : Tree
 second = fork (fork (leaf 1) (leaf 3)) (leaf 2)
 
-pair-yes : RowPairCall (7 ∷ 3 ∷ 7 ∷ []) (7 ∷ 5 ∷ 7 ∷ []) (accepted true)
-unfolding isRow risesFrom allFit size onesIn rowTree grow firstChild leads trailingZeros
+pair-yes : RowPairCall (7 ∷ 3 ∷ 7 ∷ []) (7 ∷ 5 ∷ 7 ∷ []) (accepted (record { yes = true; forests = 1 }))
+unfolding isRow risesFrom allFit size onesIn rowTree grow firstChild leads trailingZeros within member
 pair-yes = is-apart first second refl (near rooted first second tt tt tt)
 
-pair-no : RowPairCall (7 ∷ 3 ∷ 7 ∷ []) (7 ∷ 3 ∷ 7 ∷ []) (accepted false)
-unfolding isRow risesFrom allFit size onesIn rowTree grow firstChild leads trailingZeros
+pair-no : RowPairCall (7 ∷ 3 ∷ 7 ∷ []) (7 ∷ 3 ∷ 7 ∷ []) (accepted (record { yes = false; forests = 0 }))
+unfolding isRow risesFrom allFit size onesIn rowTree grow firstChild leads trailingZeros within member
 pair-no = not-apart first first refl (far rooted first first tt tt tt)

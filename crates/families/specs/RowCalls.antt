@@ -1,7 +1,7 @@
 -- The calls on rows: text to row, row to text, and the pair test on rows. In words: docs/RULES.md, 'The calls' and 'Rows'.
 -- Assumes nothing.
 use mathlib.Core.Path.{_≡_}
-use mathlib.Core.Bool.{Bool, true, false, cond}
+use mathlib.Core.Bool.{true, false, cond}
 use mathlib.Core.List.{List, [], _∷_}
 use Prim.Native.Nat.{ℕ}
 use lib.Dec.{eqb}
@@ -12,7 +12,8 @@ use Rattle.meaning.specs.Kind.{Kinded, rooted-only}
 use Rattle.meaning.specs.Clade.{clade}
 use Rattle.meaning.specs.Move.{Apart}
 use Rattle.meaning.specs.Reading.{readTree}
-use Rattle.meaning.specs.Answer.{Answer, accepted, refusal, Outcome, textOf, onward, conclude}
+use Rattle.meaning.specs.Compared.{compared}
+use Rattle.meaning.specs.Answer.{Answer, accepted, refusal, Outcome, Comparison, textOf, onward, conclude}
 use Rattle.meaning.specs.Calls.{Slice, enough, lent, limited, answered}
 use Rattle.families.specs.Row.{row, isRow, rowTree}
 
@@ -48,8 +49,8 @@ alikeRows t u = cond (eqb (clade t) (clade u)) (accepted (t, u)) (refusal 5 1 0)
 abbrev pub rowsRead : List ℕ → List ℕ → Answer ((t : Tree) × Tree)
 rowsRead xs ys = onward (rowGiven 0 xs) λ t. onward (rowGiven 1 ys) λ u. alikeRows t u
 
--- row pair call: yes exactly when the two trees are one move apart
-pub data RowPairCall (xs ys : List ℕ) : Answer Bool → Type 0 where
-  is-apart : (t u : Tree) → rowsRead xs ys ≡ accepted (t, u) → Apart t u → RowPairCall xs ys (accepted true)
-  not-apart : (t u : Tree) → rowsRead xs ys ≡ accepted (t, u) → ¬ Apart t u → RowPairCall xs ys (accepted false)
+-- row pair call: yes exactly when the two trees are one move apart, and how many forests were compared
+pub data RowPairCall (xs ys : List ℕ) : Answer Comparison → Type 0 where
+  is-apart : (t u : Tree) → rowsRead xs ys ≡ accepted (t, u) → Apart t u → RowPairCall xs ys (accepted (record { yes = true; forests = compared t u }))
+  not-apart : (t u : Tree) → rowsRead xs ys ≡ accepted (t, u) → ¬ Apart t u → RowPairCall xs ys (accepted (record { yes = false; forests = compared t u }))
   refuses : (n i p : ℕ) → rowsRead xs ys ≡ refusal n i p → RowPairCall xs ys (refusal n i p)

@@ -23,7 +23,8 @@ use Rattle.meaning.specs.Loops.{pairsOf}
 use Rattle.meaning.specs.Decide.{oneInterchange?}
 use Rattle.meaning.specs.Islands.{uniteAll}
 use Rattle.meaning.specs.Copies.{firstOf, firstsOf, Choice, merged, kept-apart, LinkedBy, MergedIslands}
-use Rattle.meaning.specs.Answer.{Answer, accepted, refusal, Outcome, TableMemory, GraphSize, GraphMemory, FirstsMemory, IslandsMemory, textOf, onward, conclude}
+use Rattle.meaning.specs.Compared.{comparison}
+use Rattle.meaning.specs.Answer.{Answer, accepted, refusal, Outcome, Comparison, TableMemory, GraphSize, GraphMemory, FirstsMemory, IslandsMemory, textOf, onward, conclude}
 use Rattle.meaning.specs.Calls.{enough, lent, limited, answered, formSlices, formRead, hasCut, cutSlices, cutRead, together, beside, pairRead, PairCall, is-apart, not-apart, tableRead, tableSlices, tableCallRead, graphSlices, graphRead, graphOf, Lists, lists, InterchangeCall, firstsSlices, firstsRead, firstsGraphOf, ChoosingCall, GraphCall, islandsSlices, islandsRead, islandGraphOf, IslandsCall, numbers}
 use Rattle.meaning.specs.Sheet.{refusalLine, Printout, prints, sheet, shows-pairs, Sheet, sheetSlices, sheetGiven, SheetCall, gives}
 use Rattle.meaning.specs.IslandSheet.{islandLines, shows-islands, IslandSheet}
@@ -200,17 +201,17 @@ pub sheet-call-tells : (x out : List ℕ) → Tells (λ y. y ≡ x) (Line sheetC
 sheet-call-tells x out = lent-tells (enough (sheetSlices out)) (at-zero tt) (accepts refl)
 
 -- ---- every text has an outcome
-pub pair-exists : (s s′ : List ℕ) → (a : Answer Bool) × PairCall s s′ a
+pub pair-exists : (s s′ : List ℕ) → (a : Answer Comparison) × PairCall s s′ a
 pair-exists s s′ = by (pairRead s s′) refl
   where
-    decided : (x y : Kinded) → pairRead s s′ ≡ accepted (x, y) → (d : Bool) → apartAs? (x .kind) (x .tree) (y .tree) ≡ d → (a : Answer Bool) × PairCall s s′ a
+    decided : (x y : Kinded) → pairRead s s′ ≡ accepted (x, y) → (d : Bool) → apartAs? (x .kind) (x .tree) (y .tree) ≡ d → (a : Answer Comparison) × PairCall s s′ a
     decided x y e d f = let r = tells-accepted (pair-tells s s′) e in yes-or-no d f (apartAs-iff (x .kind) (x .tree) (y .tree) (r .good .distinct) (r .good′ .distinct))
       where
-        yes-or-no : (d : Bool) → apartAs? (x .kind) (x .tree) (y .tree) ≡ d → T (apartAs? (x .kind) (x .tree) (y .tree)) ↔ ApartAs (x .kind) (x .tree) (y .tree) → (a : Answer Bool) × PairCall s s′ a
-        yes-or-no true f i = (accepted true, is-apart x y e (i .0 (subst T (sym f) tt)))
-        yes-or-no false f i = (accepted false, not-apart x y e (λ a. subst T f (i .1 a)))
+        yes-or-no : (d : Bool) → apartAs? (x .kind) (x .tree) (y .tree) ≡ d → T (apartAs? (x .kind) (x .tree) (y .tree)) ↔ ApartAs (x .kind) (x .tree) (y .tree) → (a : Answer Comparison) × PairCall s s′ a
+        yes-or-no true f i = (accepted (comparison true x y), is-apart x y e (i .0 (subst T (sym f) tt)))
+        yes-or-no false f i = (accepted (comparison false x y), not-apart x y e (λ a. subst T f (i .1 a)))
 
-    by : (a : Answer ((x : Kinded) × Kinded)) → pairRead s s′ ≡ a → (a : Answer Bool) × PairCall s s′ a
+    by : (a : Answer ((x : Kinded) × Kinded)) → pairRead s s′ ≡ a → (a : Answer Comparison) × PairCall s s′ a
     by (accepted x) e = decided (x .0) (x .1) e (apartAs? (x .0 .kind) (x .0 .tree) (x .1 .tree)) refl
     by (refusal n i p) e = (refusal n i p, PairCall.refuses n i p e)
 

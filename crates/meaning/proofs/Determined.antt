@@ -1,7 +1,7 @@
 -- Each call's outcome is determined: two outcomes that its promise allows are equal, answer and memory.
 -- Assumes nothing.
 use mathlib.Core.Path.{_≡_, refl, sym, ap, ap₂, subst, subst₂, _∙_}
-use mathlib.Core.Bool.{Bool}
+use mathlib.Core.Bool.{Bool, true, false}
 use mathlib.Core.List.{List}
 use Prim.Native.Nat.{ℕ}
 use lib.ListN.{length}
@@ -10,7 +10,8 @@ use Rattle.meaning.specs.Kind.{Kinded, Trees}
 use Rattle.meaning.specs.EitherKind.{ApartAs}
 use Rattle.meaning.specs.Listing.{Pair, Listing}
 use Rattle.meaning.specs.Copies.{merged, LinkedBy, MergedIslands}
-use Rattle.meaning.specs.Answer.{Answer, accepted, refusal, Outcome, TableSize, TableMemory, GraphSize, IslandsMemory, textOf, conclude}
+use Rattle.meaning.specs.Compared.{comparison}
+use Rattle.meaning.specs.Answer.{Answer, accepted, refusal, Outcome, Comparison, TableSize, TableMemory, GraphSize, IslandsMemory, textOf, conclude}
 use Rattle.meaning.specs.Calls.{formCall, cutCall, PairCall, is-apart, not-apart, refuses, tableCall, Lists, lists, IslandsCall, numbers, islandGraphOf}
 use Rattle.meaning.specs.IslandSheet.{IslandSheetOf, shows-islands, IslandSheet, islandLines}
 use Rattle.meaning.specs.Sheet.{refusalLine, Printout, prints, sheet, SheetOf, shows-pairs, Sheet, sheetGiven, SheetCall, gives}
@@ -44,12 +45,17 @@ ApartPair x = ApartAs (x .0 .kind) (x .0 .tree) (x .1 .tree)
 apart-and-not : {a : Answer ((x : Kinded) × Kinded)} {x y : (x : Kinded) × Kinded} → a ≡ accepted x → a ≡ accepted y → ApartPair x → ¬ ApartPair y → ⊥
 apart-and-not e f h k = k (subst ApartPair (same-accepted e f) h)
 
-pub pair-determined : {s s′ : List ℕ} {a b : Answer Bool} → PairCall s s′ a → PairCall s s′ b → a ≡ b
-pair-determined (is-apart t u e h) (is-apart t′ u′ e′ h′) = refl
+-- and the same is told of them
+same-told : (b : Bool) {a : Answer ((x : Kinded) × Kinded)} {x y : (x : Kinded) × Kinded} → a ≡ accepted x → a ≡ accepted y
+    → _≡_ {A = Answer Comparison} (accepted (comparison b (x .0) (x .1))) (accepted (comparison b (y .0) (y .1)))
+same-told b e f = ap (λ (x : (x : Kinded) × Kinded). accepted (comparison b (x .0) (x .1))) (same-accepted e f)
+
+pub pair-determined : {s s′ : List ℕ} {a b : Answer Comparison} → PairCall s s′ a → PairCall s s′ b → a ≡ b
+pair-determined (is-apart t u e h) (is-apart t′ u′ e′ h′) = same-told true e e′
 pair-determined (is-apart t u e h) (not-apart t′ u′ e′ h′) = absurd (apart-and-not e e′ h h′)
 pair-determined (is-apart t u e h) (PairCall.refuses n i p e′) = absurd (not-both e e′)
 pair-determined (not-apart t u e h) (is-apart t′ u′ e′ h′) = absurd (apart-and-not e′ e h′ h)
-pair-determined (not-apart t u e h) (not-apart t′ u′ e′ h′) = refl
+pair-determined (not-apart t u e h) (not-apart t′ u′ e′ h′) = same-told false e e′
 pair-determined (not-apart t u e h) (PairCall.refuses n i p e′) = absurd (not-both e e′)
 pair-determined (PairCall.refuses n i p e) (is-apart t′ u′ e′ h′) = absurd (not-both e′ e)
 pair-determined (PairCall.refuses n i p e) (not-apart t′ u′ e′ h′) = absurd (not-both e′ e)

@@ -3,6 +3,7 @@ pub mod Before
 pub mod Calls
 pub mod Canon
 pub mod Clade
+pub mod Compared
 pub mod Complete
 pub mod Copies
 pub mod Counts

@@ -1,4 +1,4 @@
--- The starred samples of document 01 hold, and a sheet of islands.
+-- The starred samples of document 01 hold, those of compared forests, and a sheet of islands.
 -- Assumes nothing.
 use mathlib.Core.Path.{_≡_, refl, subst}
 use mathlib.Core.Logic.{_↔_}
@@ -24,7 +24,7 @@ use Rattle.meaning.specs.Sheet.{Sheet, prints, shows-pairs, twoFields, t
 use Rattle.meaning.specs.Islands.{uniteAll}
 use Rattle.meaning.specs.Copies.{firstsOf, merged, LinkedBy}
 use Rattle.meaning.specs.IslandSheet.{linesFrom, islandLines, shows-islands, IslandSheet}
-use Rattle.meaning.specs.Samples.{AllHold, samples}
+use Rattle.meaning.specs.Samples.{AllHold, samples, boundSamples}
 use Rattle.meaning.proofs.Decide.{distinct-iff}
 use Rattle.meaning.proofs.EitherKind.{apartAs-iff}
 use Rattle.meaning.specs.Loops.{each, rowOf, pairsFrom}
@@ -94,6 +94,16 @@ samples-hold =
           (rw (le-leb pairNumbers (length (memory .graph .pairs)) h, le-leb maxTrees (length (memory .graph .counts)) k, le-leb maxTrees (length (memory .firsts)) l))
           (merged-listed rooted two ((0, 1) ∷ []) (tt, (tt, tt)) refl),
     ))
+    and not-apart _ _ refl (far rooted _ _ tt tt tt)
+    and not-apart _ _ refl (far rooted _ _ tt tt tt)
+    and tt
+
+pub bound-samples-hold : AllHold boundSamples
+unfolding isBlank isDigit lead past valueAfter value member token badLabel labelAt forkAt nodeAt readNode exactly letterAt markAt twoLabels thirdAt threeAt topAt treeAt readTree within
+bound-samples-hold =
+    is-apart _ _ refl (near rooted _ _ tt tt tt)
+    and is-apart _ _ refl (near rooted _ _ tt tt tt)
+    and is-apart _ _ refl (near rooted _ _ tt tt tt)
     and not-apart _ _ refl (far rooted _ _ tt tt tt)
     and not-apart _ _ refl (far rooted _ _ tt tt tt)
     and tt

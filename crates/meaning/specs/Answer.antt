@@ -1,5 +1,6 @@
 -- What the calls answer, in document 01's numbers and values, and what they leave in lent memory. In words: docs/RULES.md, 'The calls'.
 -- Assumes nothing.
+use mathlib.Core.Bool.{Bool}
 use mathlib.Core.List.{List, _++_}
 use Prim.Native.Nat.{ℕ}
 use lib.ListN.{length, drop}
@@ -13,6 +14,11 @@ pub data Answer (A : Type 0) : Type 0 where
 pub record Outcome (A M : Type 0) : Type 0 where
   pub answer : Answer A
   pub memory : M
+
+-- what the pair call tells: whether the trees are one move apart, and how many forests were compared
+pub record Comparison : Type 0 where
+  pub yes : Bool
+  pub forests : ℕ
 
 -- how much the table call writes: bytes of text, and trees
 pub record TableSize : Type 0 where

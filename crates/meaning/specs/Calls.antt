@@ -16,7 +16,8 @@ use Rattle.meaning.specs.Interchange.{OneInterchange}
 use Rattle.meaning.specs.Reading.{Read, got, refused, readTree, readTable, unlike}
 use Rattle.meaning.specs.Listing.{Pair, Listing, At, counts, flat}
 use Rattle.meaning.specs.Copies.{firstsOf, Choice, merged, LinkedBy, MergedIslands}
-use Rattle.meaning.specs.Answer.{Answer, accepted, refusal, Outcome, TableSize, TableMemory, GraphSize, GraphMemory, FirstsMemory, IslandsMemory, written, textOf, onward, conclude}
+use Rattle.meaning.specs.Compared.{comparison}
+use Rattle.meaning.specs.Answer.{Answer, accepted, refusal, Outcome, Comparison, TableSize, TableMemory, GraphSize, GraphMemory, FirstsMemory, IslandsMemory, written, textOf, onward, conclude}
 
 -- a lent slice: the stated size, and its length
 abbrev pub Slice : Type 0
@@ -82,10 +83,10 @@ beside x (refused n p) = refusal n 1 p
 abbrev pub pairRead : List ℕ → List ℕ → Answer ((x : Kinded) × Kinded)
 pairRead s s′ = limited 0 s (limited 1 s′ (onward (answered 0 (readTree either s)) λ x. beside x (readTree either s′)))
 
--- pair call: yes exactly when the two trees are one move apart
-pub data PairCall (s s′ : List ℕ) : Answer Bool → Type 0 where
-  is-apart : (x y : Kinded) → pairRead s s′ ≡ accepted (x, y) → ApartAs (x .kind) (x .tree) (y .tree) → PairCall s s′ (accepted true)
-  not-apart : (x y : Kinded) → pairRead s s′ ≡ accepted (x, y) → ¬ ApartAs (x .kind) (x .tree) (y .tree) → PairCall s s′ (accepted false)
+-- pair call: yes exactly when the two trees are one move apart, and how many forests were compared
+pub data PairCall (s s′ : List ℕ) : Answer Comparison → Type 0 where
+  is-apart : (x y : Kinded) → pairRead s s′ ≡ accepted (x, y) → ApartAs (x .kind) (x .tree) (y .tree) → PairCall s s′ (accepted (comparison true x y))
+  not-apart : (x y : Kinded) → pairRead s s′ ≡ accepted (x, y) → ¬ ApartAs (x .kind) (x .tree) (y .tree) → PairCall s s′ (accepted (comparison false x y))
   refuses : (n i p : ℕ) → pairRead s s′ ≡ refusal n i p → PairCall s s′ (refusal n i p)
 
 -- a text of many trees

@@ -2,6 +2,7 @@ pub mod Answer
 pub mod Bytes
 pub mod Calls
 pub mod Clade
+pub mod Compared
 pub mod Copies
 pub mod Decide
 pub mod EitherKind

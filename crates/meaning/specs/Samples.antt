@@ -1,4 +1,4 @@
--- The starred samples of document 01, samples of unrooted trees, and what each claims. docs/RULES.md says what document 01 is.
+-- The starred samples of document 01, samples of unrooted trees and of compared forests, and what each claims. docs/RULES.md says what document 01 is.
 -- Assumes nothing.
 use mathlib.Core.Path.{_≡_}
 use mathlib.Core.Bool.{true, false}
@@ -22,8 +22,8 @@ pub data Sample : Type 0 where
   has-cut : (text : String) (cut : ℕ) (forest : String) → Sample
   cut-refused : (text : String) (cut number place : ℕ) → Sample
   table-refused : (text : String) (number place : ℕ) → Sample
-  yes-apart : (text text′ : String) → Sample
-  no-apart : (text text′ : String) → Sample
+  yes-apart : (text text′ : String) (compared : ℕ) → Sample
+  no-apart : (text text′ : String) (compared : ℕ) → Sample
   shares : (text text′ : String) (forests : ℕ) → Sample
   lists : (table : String) (trees : ℕ) (pairs : List Pair) → Sample
 
@@ -36,8 +36,8 @@ Claim (has-cut x c y) = (out : List ℕ) → forestBytes ≤ length out → cutC
 Claim (cut-refused x c n p) = (out : List ℕ) → forestBytes ≤ length out → cutCall (bytes x) c out ≡ record { answer = refusal n 0 p; memory = out }
 Claim (table-refused x n p) =
     (memory : TableMemory) → tableBytes ≤ length (memory .texts) → maxTrees ≤ length (memory .ends) → tableCall (bytes x) memory ≡ record { answer = refusal n 0 p; memory = memory }
-Claim (yes-apart x y) = PairCall (bytes x) (bytes y) (accepted true)
-Claim (no-apart x y) = PairCall (bytes x) (bytes y) (accepted false)
+Claim (yes-apart x y n) = PairCall (bytes x) (bytes y) (accepted (record { yes = true; forests = n }))
+Claim (no-apart x y n) = PairCall (bytes x) (bytes y) (accepted (record { yes = false; forests = n }))
 Claim (shares x y n) = (t : Kinded) × (u : Kinded) × (pairRead (bytes x) (bytes y) ≡ accepted (t, u)) × (shared (t .tree) (u .tree) ≡ n)
 Claim (lists x k ps) =
     (memory : FirstsMemory) → pairNumbers ≤ length (memory .graph .pairs) → maxTrees ≤ length (memory .graph .counts) → maxTrees ≤ length (memory .firsts)
@@ -62,11 +62,11 @@ samples =
     ∷ table-refused "(1,2);(1,3);" 5 11
     ∷ has-cut "((1,2),(3,4));" 0 "(3,4) (1,2);"
     ∷ has-cut "((1,2),(3,4));" 3 "(1,2) (3,4);"
-    ∷ yes-apart "(((1,2),3),4);" "((1,2),(3,4));"
+    ∷ yes-apart "(((1,2),3),4);" "((1,2),(3,4));" 1
     ∷ shares "(((1,2),3),4);" "((1,2),(3,4));" 3
     ∷ lists "(((1,2),3),4);((1,2),(3,4));" 2 ((0, 1) ∷ [])
-    ∷ no-apart "(((1,2),3),4);" "(((3,4),1),2);"
-    ∷ no-apart "((((4,5),1),2),3);" "((((1,2),3),4),5);"
+    ∷ no-apart "(((1,2),3),4);" "(((3,4),1),2);" 4
+    ∷ no-apart "((((4,5),1),2),3);" "((((1,2),3),4),5);" 5
     ∷ []
 
 -- those of ticket 8 of document 02: marks, tops, the canonical text, line 10 and the move
@@ -83,8 +83,18 @@ unrootedSamples =
     ∷ cut-refused "[&U](1,2,3); x" 99 10 11
     ∷ table-refused "[&U](1,2,3);(1,2);" 10 17
     ∷ table-refused "(1,2);(1,3);[&U](1,2);" 5 11
-    ∷ yes-apart "[&U](1,2,(3,4));" "[&U](1,3,(2,4));"
-    ∷ yes-apart "[&U](1,2,(3,(4,(5,6))));" "[&U](1,2,(((3,4),5),6));"
-    ∷ no-apart "[&U](1,2,(3,4));" "[&U]((4,3),2,1);"
+    ∷ yes-apart "[&U](1,2,(3,4));" "[&U](1,3,(2,4));" 0
+    ∷ yes-apart "[&U](1,2,(3,(4,(5,6))));" "[&U](1,2,(((3,4),5),6));" 0
+    ∷ no-apart "[&U](1,2,(3,4));" "[&U]((4,3),2,1);" 0
     ∷ lists "[&U](1,2,(3,4));[&U](1,3,(2,4));[&U](2,1,(4,3));" 3 ((0, 1) ∷ [])
+    ∷ []
+
+-- those of ticket 12 of document 02: clades of other subtrees count, the first shared forest does and none behind it, either order, one topology
+abbrev pub boundSamples : List Sample
+boundSamples =
+    yes-apart "((((1,2),3),4),5);" "((((1,3),2),4),5);" 3
+    ∷ yes-apart "((((1,2),3),4),5);" "((((1,5),2),3),4);" 5
+    ∷ yes-apart "((((1,5),2),3),4);" "((((1,2),3),4),5);" 2
+    ∷ no-apart "(((1,2),3),4);" "(4,(3,(2,1)));" 0
+    ∷ no-apart "7;" "7;" 0
     ∷ []

@@ -1,10 +1,10 @@
 -- The promise of each exported function determines its result, both lent numbers and the lent slices at exit.
 -- Assumes nothing.
 use mathlib.Core.Path.{_≡_, refl, sym, ap, _∙_}
-use mathlib.Core.Bool.{Bool, true, false}
 use mathlib.Core.List.{List}
 use Prim.Native.Nat.{ℕ, zero, suc}
-use Rattle.meaning.specs.Answer.{Answer, accepted, refusal, Outcome, TableSize, TableMemory, GraphSize, GraphMemory, FirstsMemory, IslandsMemory}
+use Rattle.meaning.specs.Lists.{bit}
+use Rattle.meaning.specs.Answer.{Answer, accepted, refusal, Outcome, Comparison, TableSize, TableMemory, GraphSize, GraphMemory, FirstsMemory, IslandsMemory}
 use Rattle.meaning.specs.Copies.{Choice}
 use Rattle.meaning.specs.Calls.{PairCall, InterchangeCall, ChoosingCall, IslandsCall}
 use Rattle.meaning.specs.Sheet.{SheetCall}
@@ -25,12 +25,8 @@ numbers first second (refusal n i p) = reply n i p
 abbrev textNumbers : Answer ℕ → Reply
 textNumbers a = numbers (λ n. n) (λ n. 0) a
 
-abbrev yes : Bool → ℕ
-yes true = 1
-yes false = 0
-
-abbrev pairNumbers : Answer Bool → Reply
-pairNumbers a = numbers yes (λ b. 0) a
+abbrev pairNumbers : Answer Comparison → Reply
+pairNumbers a = numbers (λ k. bit (k .yes)) (λ k. k .forests) a
 
 abbrev tableNumbers : Answer TableSize → Reply
 tableNumbers a = numbers (λ k. k .bytes) (λ k. k .trees) a
@@ -45,10 +41,9 @@ text-back zero x (suc y) = refl
 text-back (suc r) x y = refl
 
 pair-back : (r x y : ℕ) → pairNumbers (coded pairValue r x y) ≡ reply r x y
-pair-back zero zero zero = refl
-pair-back zero (suc zero) zero = refl
-pair-back zero (suc (suc x)) zero = refl
-pair-back zero x (suc y) = refl
+pair-back zero zero y = refl
+pair-back zero (suc zero) y = refl
+pair-back zero (suc (suc x)) y = refl
 pair-back (suc r) x y = refl
 
 -- nothing is answered but that it is done

@@ -10,7 +10,7 @@ use Rattle.meaning.specs.Tree.{Tree, form}
 use Rattle.meaning.specs.Kind.{Trees}
 use Rattle.meaning.specs.EitherKind.{formAs}
 use Rattle.meaning.specs.Move.{cutAt, forest}
-use Rattle.meaning.specs.Answer.{Answer, Outcome, TableMemory, GraphSize, GraphMemory, FirstsMemory, IslandsMemory, textOf, conclude}
+use Rattle.meaning.specs.Answer.{Answer, Outcome, Comparison, TableMemory, GraphSize, GraphMemory, FirstsMemory, IslandsMemory, textOf, conclude}
 use Rattle.meaning.specs.Calls.{formCall, cutCall, PairCall, is-apart, not-apart, tableOf, tableCall, Lists, lists, InterchangeCall, ChoosingCall, IslandsCall, numbers}
 use Rattle.meaning.specs.Copies.{Choice}
 use Rattle.meaning.specs.Listing.{Pair}
@@ -55,12 +55,12 @@ row-numbered s out = concluded out (λ x. textOf (row (x .tree)) out) (row-tells
 pub row-text-numbered : (xs out : List ℕ) → Numbered (rowTextCall xs out .answer)
 row-text-numbered xs out = concluded out (λ t. textOf (form t) out) (row-text-tells xs out) (λ n i p l. from-one tt (l .number)) (λ t. tt)
 
-pub row-pair-numbered : {xs ys : List ℕ} {a : Answer Bool} → RowPairCall xs ys a → Numbered a
+pub row-pair-numbered : {xs ys : List ℕ} {a : Answer Comparison} → RowPairCall xs ys a → Numbered a
 row-pair-numbered (RowPairCall.is-apart t u e h) = tt
 row-pair-numbered (RowPairCall.not-apart t u e h) = tt
 row-pair-numbered {xs} {ys} (RowPairCall.refuses n i p e) = from-one tt (rows-line (tells-refusal (rows-tells xs ys) e))
 
-pub pair-numbered : {s s′ : List ℕ} {a : Answer Bool} → PairCall s s′ a → Numbered a
+pub pair-numbered : {s s′ : List ℕ} {a : Answer Comparison} → PairCall s s′ a → Numbered a
 pair-numbered (is-apart x y e h) = tt
 pair-numbered (not-apart x y e h) = tt
 pair-numbered {s} {s′} (PairCall.refuses n i p e) = from-one tt (tells-refusal (pair-tells s s′) e .number)

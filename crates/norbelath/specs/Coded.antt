@@ -1,9 +1,9 @@
 -- The answers of the exported functions: the result and the two lent numbers at exit, as document 01's values.
 -- Assumes nothing.
-use mathlib.Core.Bool.{Bool, true, false}
+use mathlib.Core.Bool.{true, false}
 use mathlib.Core.List.{List}
 use Prim.Native.Nat.{ℕ, zero, suc, _≤_}
-use Rattle.meaning.specs.Answer.{Answer, accepted, refusal, Outcome, TableSize, TableMemory, GraphSize, GraphMemory, FirstsMemory, IslandsMemory}
+use Rattle.meaning.specs.Answer.{Answer, accepted, refusal, Outcome, Comparison, TableSize, TableMemory, GraphSize, GraphMemory, FirstsMemory, IslandsMemory}
 use Rattle.meaning.specs.Copies.{Choice, merged, kept-apart}
 
 -- result 0: accepted, and the numbers say what; else the refusal's number, and the numbers are which text and the place
@@ -18,12 +18,11 @@ abbrev pub textValue : ℕ → ℕ → Answer ℕ
 textValue x zero = accepted x
 textValue x (suc y) = refusal 0 x (suc y)
 
--- the pair call: 1 for yes and 0 for no, and 0
-abbrev pub pairValue : ℕ → ℕ → Answer Bool
-pairValue zero zero = accepted false
-pairValue (suc zero) zero = accepted true
-pairValue (suc (suc x)) zero = refusal 0 (suc (suc x)) 0
-pairValue x (suc y) = refusal 0 x (suc y)
+-- the pair calls: 1 for yes and 0 for no, and how many forests were compared
+abbrev pub pairValue : ℕ → ℕ → Answer Comparison
+pairValue zero y = accepted (record { yes = false; forests = y })
+pairValue (suc zero) y = accepted (record { yes = true; forests = y })
+pairValue (suc (suc x)) y = refusal 0 (suc (suc x)) y
 
 -- the index remove call: 0 and 0, as there is no more to say
 abbrev pub doneValue : ℕ → ℕ → Answer (Unit {0})

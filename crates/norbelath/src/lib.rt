@@ -63,8 +63,8 @@ fn pair_reply(answer: PairAnswer) -> Reply
     ensures { λ r. ⌜ coded pairValue (r .result) (r .first) (r .second) ≡ pairAnswer answer ⌝ }
 {
     match answer {
-        PairAnswer::Yes => accepted(1, 0),
-        PairAnswer::No => accepted(0, 0),
+        PairAnswer::Yes(forests) => accepted(1, forests),
+        PairAnswer::No(forests) => accepted(0, forests),
         PairAnswer::Refused(x) => refused(x),
     }
 }
@@ -129,7 +129,7 @@ pub extern "C" fn norbelath_cut(
     )
 }
 
-// Pair call: the numbers are 1 for yes or 0 for no, and 0.
+// Pair call: the numbers are 1 for yes or 0 for no, and how many forests were compared.
 #[no_mangle]
 pub extern "C" fn norbelath_pair(text: &[u8], other: &[u8], first: &mut u64, second: &mut u64) -> u8
     ensures { λ r. ⌜ PairCall (now (text .entry)) (now (other .entry)) (coded pairValue r (now (first .exit)) (now (second .exit))) ⌝ }

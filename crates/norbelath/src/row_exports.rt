@@ -36,7 +36,7 @@ pub extern "C" fn norbelath_row_text(
     )
 }
 
-// Row pair call: the numbers are 1 for yes or 0 for no, and 0.
+// Row pair call: the numbers are 1 for yes or 0 for no, and how many forests were compared.
 #[no_mangle]
 pub extern "C" fn norbelath_row_pair(
     row: &[u64],

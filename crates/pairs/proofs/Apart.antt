@@ -1,20 +1,22 @@
--- Lemma 2.2 for held trees: the trees of two topologies are one move apart exactly when they differ and share a forest.
+-- Lemma 2.2 for held trees: the trees of two topologies are one move apart exactly when they differ and share a forest; with the number of forests that are compared.
 -- Assumes nothing.
 use mathlib.Core.Path.{_≡_, sym, ap, _∙_}
-use mathlib.Core.Bool.{Bool}
+use mathlib.Core.Logic.{_↔_}
+use mathlib.Core.Bool.{false}
 use Prim.Native.Nat.{ℕ, _<_}
 use lib.ListN.{length}
-use Rattle.meaning.specs.Tree.{Tree, Good, Distinct, canon}
+use Rattle.meaning.specs.Tree.{Tree, Good, Distinct, SameTopology, canon}
 use Rattle.meaning.specs.Move.{OneMove, Apart, Cut, cuts}
 use Rattle.meaning.proofs.Canon.{canon-canonical, canonical-canon, topology-iff-canon}
 use Rattle.meaning.proofs.Forests.{move-canon, canon-move}
 use Rattle.meaning.proofs.Lists.{number}
 use Rattle.meaning.proofs.Moves.{IsCut, prune-cut}
-use Rattle.lent.specs.Runs.{Says}
+use Rattle.meaning.proofs.Compared.{compared-same, compared-differ}
 use Rattle.lent.proofs.Says.{says}
 use Rattle.held.specs.Held.{cutIn}
 use Rattle.held.proofs.Cut.{cut-is, canonical-pruned}
-use Rattle.pairs.specs.Pair.{SharesForest}
+use Rattle.pairs.specs.Pair.{SharesForest, Searched, Tested}
+use Rattle.pairs.specs.declared.Comparison.{Comparison}
 
 -- a cut's number
 numbered-cut : (t : Tree) {k : Cut} → IsCut t k → (c : ℕ) × (c < length (cuts t)) × (cutIn t c ≡ k)
@@ -61,8 +63,16 @@ module _ {t u : Tree} (G : Good t) (H : Good u) where
             };
       }
 
-  pub not-apart : canon t ≡ canon u → ¬ Apart t u
-  not-apart e a = a .0 (topology-iff-canon D E .1 e)
+  same-iff : SameTopology t u ↔ (canon t ≡ canon u)
+  same-iff = topology-iff-canon D E
 
-  pub says-apart : ¬ (canon t ≡ canon u) → (r : Bool) → Says r (SharesForest (canon t) (canon u)) → Says r (Apart t u)
-  says-apart differ r = says (SharesForest (canon t) (canon u)) (Apart t u) (λ s. (λ e. differ (topology-iff-canon D E .0 e), share-move s)) (λ a. move-share (a .1)) r
+  -- trees of one topology are not apart, and no forest is compared
+  pub tested-same : canon t ≡ canon u → Tested t u (record { yes = false; forests = 0 })
+  tested-same e = record { apart = λ a. a .0 (same-iff .1 e); number = sym (compared-same D E (same-iff .1 e)) }
+
+  -- those of two are where they share a forest, and what was counted is the number
+  pub tested : ¬ (canon t ≡ canon u) → (r : Comparison) → Searched (canon t) (canon u) r → Tested t u r
+  tested differ r s = record {
+    apart = says (SharesForest (canon t) (canon u)) (Apart t u) (λ f. (λ e. differ (same-iff .0 e), share-move f)) (λ a. move-share (a .1)) (r .yes) (s .shares);
+    number = s .number ∙ sym (compared-differ D E (λ e. differ (same-iff .0 e)));
+  }

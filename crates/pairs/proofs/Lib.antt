@@ -1,5 +1,6 @@
 pub mod Apart
 pub mod Children
+pub mod Counting
 pub mod Left
 pub mod Ordered
 pub mod Runs

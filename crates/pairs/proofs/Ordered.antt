@@ -3,7 +3,7 @@
 use mathlib.Core.Path.{_≡_, sym, _∙_}
 use native.Mathlib.Omega.{arith}
 use Rattle.meaning.specs.Limits.{maxNodes}
-use Rattle.meaning.specs.Tree.{Tree, Distinct, Canonical, canon}
+use Rattle.meaning.specs.Tree.{Tree, Good, Distinct, Canonical, canon}
 use Rattle.meaning.proofs.Same.{_≈_}
 use Rattle.meaning.proofs.Canon.{≈-canon, canonical-canon, canon-distinct, canon-good, canon-canonical}
 use Rattle.held.specs.Kept.{Kept}
@@ -26,5 +26,9 @@ kept-in-order p =
     record { tree = canon t; holds = keeps-holds (p .keeps); in-order = canon-in-order t (p .keeps .good .distinct); long = keeps-long (p .keeps) }
 
 -- and a good one
+pub kept-good : {tree : Record} (p : Kept tree) → Good (kept-in-order p .tree)
+unfolding kept-in-order
+kept-good p = canon-good (p .keeps .good)
+
 pub kept-whole : {tree : Record} → Kept tree → Whole (tree .node) maxNodes
 kept-whole p = record { tree = canon (p .topology); holds = keeps-holds (p .keeps); good = canon-good (p .keeps .good); room = omega arith }

@@ -7,7 +7,7 @@ use Prim.Native.Nat.{ℕ, _+_, _-_, _<_, _≤_}
 use native.Mathlib.Omega.{arith}
 use lib.ListN.{length, getD}
 use Rattle.meaning.specs.Limits.{maxNodes}
-use Rattle.meaning.specs.Tree.{Tree, canon}
+use Rattle.meaning.specs.Tree.{Tree, Good, canon}
 use Rattle.meaning.specs.Move.{cuts}
 use Rattle.meaning.specs.Clade.{clade}
 use Rattle.lent.specs.Runs.{Says}
@@ -27,6 +27,7 @@ marked-held p = record { tree = p .whole .tree; holds = p .whole .holds }
 pub record CutAt (xs m : List ℕ) (p : ℕ) : Type 0 where
   pub node : 1 ≤ p
   pub cut : OrderedCut xs (p - 1)
+  pub good : Good (cut .tree)
   pub few : nodes (cut .tree) ≤ maxNodes
   pub marks : Noted clade xs m
 
@@ -37,6 +38,7 @@ cut-at k e low lt =
     record {
       node = low;
       cut = record { tree = h .tree; holds = h .holds; in-order = h .in-order; is-cut = omega (arith, cuts-nodes (h .tree)) };
+      good = k .good;
       few = omega (arith, inside (h .holds), h .long);
       marks = k .marks;
     }
@@ -76,7 +78,7 @@ module _ {xs m : List ℕ} {p : ℕ} (k : CutAt xs m p) where
   pub node-fits : p < maxNodes
   node-fits = omega (arith, node-in, k .few)
 
-  pruned-mark : (t : Tree) → Holds xs 0 t → getD m p 0 ≡ clade (cutIn t (p - 1) .pruned)
+  pub pruned-mark : (t : Tree) → Holds xs 0 t → getD m p 0 ≡ clade (cutIn t (p - 1) .pruned)
   pruned-mark t h =
       let e : p - 1 + 1 ≡ p = omega (arith, k .node) in
       k .marks (k .cut .tree) (k .cut .holds) p (omega arith) node-in (cutIn t (p - 1) .pruned) (rw e at (pruned-holds (has-cut (k .cut)) t h))

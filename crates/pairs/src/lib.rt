@@ -1,16 +1,15 @@
-// The pair test: whether two trees are one move apart.
+// The pair test: whether two trees are one move apart, and how many forests are compared to tell.
 pub mod remainders;
 
 use held::Tree;
 ghost use mathlib.Core.Path.{_≡_};
 ghost use Prim.Native.Nat.{_+_};
 ghost use Rattle.meaning.specs.Tree.{Tree as Topology, fork, canon};
-ghost use Rattle.meaning.specs.Move.{Apart};
 ghost use Rattle.lent.specs.Runs.{Says};
 ghost use Rattle.held.specs.Held.{Holds, Held, HasCut, nodes, cutIn};
 ghost use Rattle.held.specs.Kept.{Keeps, Kept};
 ghost use Rattle.pairs.specs.Ordered.{HeldFork};
-ghost use Rattle.pairs.specs.Pair.{OrderedCut, Marked, SameForest, SharesForest};
+ghost use Rattle.pairs.specs.Pair.{OrderedCut, Marked, SameForest, Searched, Tested};
 
 // Whether the subtree of x at i is that of y at j. Most that differ do so at their first byte, which also tells the width.
 pub fn same_subtree(x: &[u8], i: usize, y: &[u8], j: usize) -> bool
@@ -64,31 +63,51 @@ pub fn same_forest(x: &[u8], c: usize, y: &[u8], d: usize) -> bool
     same_remainder(x, c, y, d)
 }
 
+// What a test of two trees tells: yes or no, and how many forests it compared.
+pub struct Comparison {
+    pub yes: bool,
+    pub forests: usize,
+}
+
 // Whether a cut of x and a cut of y have the same forest; m and n are the clades of their nodes. The search is over at the first.
-// Parts are compared only where the same clade is pruned: labels are distinct, so a cut meets that at most once in another tree.
-fn find_forest(x: &[u8], m: &[u64; Tree::MAX_NODES], y: &[u8], n: &[u64; Tree::MAX_NODES]) -> bool
+// Parts are compared only where the same clade is pruned, and a cut counts where it is: the number before it and one, however
+// often it would be met.
+fn find_forest(
+    x: &[u8],
+    m: &[u64; Tree::MAX_NODES],
+    y: &[u8],
+    n: &[u64; Tree::MAX_NODES],
+) -> Comparison
     requires { ⌜ Marked (now x) (now m) × Marked (now y) (now n) ⌝ }
-    ensures { λ r. ⌜ ((t u : Topology) → Holds (now (x .entry)) 0 t → Holds (now (y .entry)) 0 u → Says r (SharesForest t u)) ⌝ }
+    ensures { λ r. ⌜ ((t u : Topology) → Holds (now (x .entry)) 0 t → Holds (now (y .entry)) 0 u → Searched t u r) ⌝ }
 {
     let nodes = held::width(x, 0);
     let others = held::width(y, 0);
     let mut found = false;
+    let mut forests = 0;
     'search: for p in 1..nodes {
         let gone = m[p];
+        let before = forests;
         for q in 1..others {
-            if n[q] == gone && same_forest(x, p - 1, y, q - 1) {
-                found = true;
-                break 'search;
+            if n[q] == gone {
+                forests = before + 1;
+                if same_forest(x, p - 1, y, q - 1) {
+                    found = true;
+                    break 'search;
+                }
             }
         }
     }
-    found
+    Comparison {
+        yes: found,
+        forests,
+    }
 }
 
-// Whether two trees share a forest.
-fn shares_forest(a: Tree, b: Tree) -> bool
+// Whether two trees share a forest, and how many were compared.
+fn shares_forest(a: Tree, b: Tree) -> Comparison
     requires { ⌜ Kept a × Kept b ⌝ }
-    ensures { λ r. ⌜ ((t u : Topology) → Holds (a .node) 0 t → Holds (b .node) 0 u → Says r (SharesForest t u)) ⌝ }
+    ensures { λ r. ⌜ ((t u : Topology) → Holds (a .node) 0 t → Holds (b .node) 0 u → Searched t u r) ⌝ }
 {
     let mut m = [0u64; Tree::MAX_NODES];
     clades::note(&mut m, &a.node);
@@ -98,14 +117,16 @@ fn shares_forest(a: Tree, b: Tree) -> bool
 }
 
 // Whether the topologies differ and one move of the one gives the other: distinct trees are one move apart exactly when they
-// share a forest (Lemma 2.2 of document 001).
-pub fn one_move_apart(a: Tree, b: Tree) -> bool
+// share a forest (Lemma 2.2 of document 001). For equal topologies no forest is compared.
+pub fn one_move_apart(a: Tree, b: Tree) -> Comparison
     requires { ⌜ Kept a × Kept b ⌝ }
-    ensures { λ r. ⌜ ((t u : Topology) → Keeps a t → Keeps b u → Says r (Apart t u)) ⌝ }
+    ensures { λ r. ⌜ ((t u : Topology) → Keeps a t → Keeps b u → Tested t u r) ⌝ }
 {
     if same_subtree(&a.node, 0, &b.node, 0) {
-        false
-    } else {
-        shares_forest(a, b)
+        return Comparison {
+            yes: false,
+            forests: 0,
+        };
     }
+    shares_forest(a, b)
 }

@@ -16,7 +16,8 @@ use Rattle.meaning.specs.EitherKind.{formAs}
 use Rattle.meaning.specs.Clade.{clade}
 use Rattle.meaning.specs.Move.{Apart}
 use Rattle.meaning.specs.Reading.{readTree}
-use Rattle.meaning.specs.Answer.{Answer, accepted, textOf}
+use Rattle.meaning.specs.Compared.{compared}
+use Rattle.meaning.specs.Answer.{Answer, accepted, Comparison, textOf}
 use Rattle.meaning.specs.Calls.{enough, lent as lentIf, limited, answered}
 use Rattle.meaning.proofs.Logic.{clash}
 use Rattle.meaning.proofs.Length.{form-length}
@@ -31,7 +32,9 @@ use Rattle.reading.specs.declared.TreeRead.{TreeRead}
 use Rattle.reading.specs.declared.Step.the-variants.{Next, Refused as StepRefused}
 use Rattle.tables.specs.Lent.{TreeLent}
 use Rattle.tables.proofs.Lent.{Given, lent-next, lent-refused}
-use Rattle.calls.specs.Paper.{textOutcome}
+use Rattle.pairs.specs.Pair.{Tested}
+use Rattle.pairs.specs.declared.Comparison.{Comparison as Told}
+use Rattle.calls.specs.Paper.{textOutcome, comparisonOf}
 use Rattle.calls.specs.declared.TextAnswer.the-variants.{Written, Refused}
 use Rattle.calls.proofs.Texts.{wrote-text}
 use Rattle.families.specs.Row.{row, isRow, rowTree}
@@ -105,8 +108,9 @@ module _ (xs ys : List ℕ) where
         both : rowsRead xs ys ≡ accepted (rowTree xs, rowTree ys)
         both = rw (is, is′, eq-eqb (clade (rowTree xs)) (clade (rowTree ys)) (labels-are .0 ∙ same ∙ sym (labels-are .1)))
 
-        pub rows-yes : (r : Bool) → Says r (Apart (rowTree xs) (rowTree ys)) → r ≡ true → RowPairCall xs ys (accepted true)
-        rows-yes r says f = is-apart (rowTree xs) (rowTree ys) both (subst (λ (b : Bool). Says b (Apart (rowTree xs) (rowTree ys))) f says)
-
-        pub rows-no : (r : Bool) → Says r (Apart (rowTree xs) (rowTree ys)) → r ≡ false → RowPairCall xs ys (accepted false)
-        rows-no r says f = not-apart (rowTree xs) (rowTree ys) both (subst (λ (b : Bool). Says b (Apart (rowTree xs) (rowTree ys))) f says)
+        pub rows-told : (told : Told) {r : Answer Comparison} → Tested (rowTree xs) (rowTree ys) told → r ≡ accepted (comparisonOf told) → RowPairCall xs ys r
+        rows-told told t f = rw f (by (told .yes) (t .apart) (t .number))
+          where
+            by : (b : Bool) {m : ℕ} → Says b (Apart (rowTree xs) (rowTree ys)) → m ≡ compared (rowTree xs) (rowTree ys) → RowPairCall xs ys (accepted (record { yes = b; forests = m }))
+            by true s e = rw e (is-apart (rowTree xs) (rowTree ys) both s)
+            by false s e = rw e (not-apart (rowTree xs) (rowTree ys) both s)

@@ -2,6 +2,7 @@
 // cell.
 use calls::PairAnswer;
 use calls::TextAnswer;
+use calls::pair_answer;
 use calls::refusal_at_zero;
 use held::Tree;
 use lent::enough;
@@ -49,14 +50,11 @@ fn compare_rows(row: &[u64], other: &[u64]) -> PairAnswer
     if row[0] != other[0] {
         return PairAnswer::Refused(refusal_at_zero(Refusal::LABELS_DIFFER, 1));
     }
-    if pairs::one_move_apart(rows::tree_of(row), rows::tree_of(other)) {
-        PairAnswer::Yes
-    } else {
-        PairAnswer::No
-    }
+    pair_answer(pairs::one_move_apart(rows::tree_of(row), rows::tree_of(other)))
 }
 
-// Row pair call: whether one move makes the tree of `row` that of `other`, and their topologies differ.
+// Row pair call: whether one move makes the tree of `row` that of `other`, and their topologies differ; with how many forests were
+// compared to tell.
 pub fn row_pair_call(row: &[u64], other: &[u64]) -> PairAnswer
     ensures { λ r. ⌜ RowPairCall (now (row .entry)) (now (other .entry)) (pairAnswer r) ⌝ }
 {

@@ -71,18 +71,29 @@ fn cut(text: &[u8], number: usize) {
     print_text(answer, &out);
 }
 
+fn print_compared(said: &[u8], forests: usize) {
+    print(said);
+    print(b", compared ");
+    print_number(forests);
+    print(b"\n");
+}
+
+// Yes or no, and how many forests were compared.
+fn print_pair(answer: PairAnswer) {
+    match answer {
+        PairAnswer::Yes(forests) => print_compared(b"yes", forests),
+        PairAnswer::No(forests) => print_compared(b"no", forests),
+        PairAnswer::Refused(x) => print_refusal(x),
+    }
+}
+
 fn pair(first: &[u8], second: &[u8]) {
     print(b"pair ");
     print(first);
     print(b" and ");
     print(second);
     print(b" : ");
-    let answer = calls::pair_call(first, second);
-    match answer {
-        PairAnswer::Yes => print(b"yes\n"),
-        PairAnswer::No => print(b"no\n"),
-        PairAnswer::Refused(x) => print_refusal(x),
-    }
+    print_pair(calls::pair_call(first, second));
 }
 
 // The last tree's end is the number of bytes.
@@ -126,12 +137,7 @@ fn long_texts() {
     let answer = calls::form_call(&more, &mut out);
     print_text(answer, &out);
     print(b"65,536 blanks as the second : ");
-    let answer = calls::pair_call(b"x", &more);
-    match answer {
-        PairAnswer::Yes => print(b"yes\n"),
-        PairAnswer::No => print(b"no\n"),
-        PairAnswer::Refused(x) => print_refusal(x),
-    }
+    print_pair(calls::pair_call(b"x", &more));
 }
 
 fn forms() {

@@ -1,5 +1,4 @@
 // The calls on rows on samples.
-use calls::PairAnswer;
 use calls::TextAnswer;
 use held::Tree;
 use rows::Row;
@@ -53,12 +52,7 @@ fn row_pair(row: &[u64], other: &[u64]) {
     super::print(b" and");
     print_numbers(other, other.len());
     super::print(b" : ");
-    let answer = row_calls::row_pair_call(row, other);
-    match answer {
-        PairAnswer::Yes => super::print(b"yes\n"),
-        PairAnswer::No => super::print(b"no\n"),
-        PairAnswer::Refused(x) => super::print_refusal(x),
-    }
+    super::print_pair(row_calls::row_pair_call(row, other));
 }
 
 // One leaf, two, the deepest tree, and refusals.

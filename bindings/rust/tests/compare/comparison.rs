@@ -1,7 +1,9 @@
 //! Each call beside the independent implementation: its answer, and what it leaves in lent memory.
 
-use norbelath::{Copies, Graph, GraphSize, Interchanges, Islands, Refusal, Support, SupportSize};
-use norbelath::{Table, TableSize, CUT_OUT, FORM_OUT, GRAPH_COUNTS, GRAPH_FIRSTS, GRAPH_PAIRS};
+use norbelath::{Copies, Graph, GraphSize, Interchanges, Islands, Pair, Refusal, Support};
+use norbelath::{
+    SupportSize, Table, TableSize, CUT_OUT, FORM_OUT, GRAPH_COUNTS, GRAPH_FIRSTS, GRAPH_PAIRS,
+};
 use norbelath::{ISLANDS, ROW, ROW_TEXT_OUT, SHEET_OUT, SUPPORT_CLADES, SUPPORT_OUT};
 use norbelath::{SUPPORT_TREES, TABLE_ENDS, TABLE_TEXTS};
 
@@ -38,6 +40,13 @@ pub fn refusal(x: plain::Refusal) -> Refusal {
         number: x.number,
         text: x.text,
         place: x.place,
+    }
+}
+
+fn paired(x: plain::Pair) -> Pair {
+    Pair {
+        apart: x.apart,
+        forests: x.forests,
     }
 }
 
@@ -275,8 +284,8 @@ impl Comparison {
     }
 
     /// Gives the answer, for tests that want to see both.
-    pub fn row_pair(&mut self, row: &[u64], other: &[u64]) -> Option<bool> {
-        let expected = plain::row_pair(row, other).map_err(refusal);
+    pub fn row_pair(&mut self, row: &[u64], other: &[u64]) -> Option<Pair> {
+        let expected = plain::row_pair(row, other).map(paired).map_err(refusal);
         let answer = norbelath::row_pair(row, other);
         assert_eq!(answer, expected, "{row:?} and {other:?}");
         self.count(&answer);
@@ -284,8 +293,8 @@ impl Comparison {
     }
 
     /// Gives the answer, for tests that want to see both.
-    pub fn pair(&mut self, text: &[u8], other: &[u8]) -> Option<bool> {
-        let expected = plain::pair(text, other).map_err(refusal);
+    pub fn pair(&mut self, text: &[u8], other: &[u8]) -> Option<Pair> {
+        let expected = plain::pair(text, other).map(paired).map_err(refusal);
         let answer = norbelath::pair(text, other);
         assert_eq!(answer, expected, "{} and {}", shown(text), shown(other));
         self.count(&answer);

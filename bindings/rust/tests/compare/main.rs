@@ -6,7 +6,7 @@ mod index;
 
 use comparison::Comparison;
 use generator::{chains, damage, damage_row, labels, most_clades, Kind, Random, Tree};
-use norbelath::{Graph, Islands, Support, MAX_TEXT, MAX_TREES, SUPPORT_CLADES};
+use norbelath::{Graph, Islands, Pair, Refusal, Support, MAX_TEXT, MAX_TREES, SUPPORT_CLADES};
 
 /// Every text of up to so many of these bytes.
 fn every_text(bytes: &[u8], most: usize) -> Vec<Vec<u8>> {
@@ -119,11 +119,52 @@ fn every_cut_of_random_trees() {
     compare.met("every cut of random trees", &least);
 }
 
+/// How often a test saw yes, and no; yes and no after more forests than the trees have leaves; and another number of
+/// forests with the trees exchanged.
+#[derive(Default)]
+struct Seen {
+    yes: usize,
+    no: usize,
+    many: [usize; 2],
+    exchanged: usize,
+}
+
+impl Seen {
+    /// Counts the answer to two rooted trees of so many leaves, with that to the same exchanged, if they are accepted.
+    fn count(&mut self, leaves: usize, answers: [Option<Pair>; 2]) {
+        let [Some(answer), Some(exchanged)] = answers else {
+            return;
+        };
+        assert_eq!(answer.apart, exchanged.apart);
+        assert!(answer.forests <= 2 * leaves - 2);
+        assert!(answer.forests >= usize::from(answer.apart));
+        self.yes += usize::from(answer.apart);
+        self.no += usize::from(!answer.apart);
+        self.many[usize::from(answer.apart)] += usize::from(answer.forests > leaves);
+        self.exchanged += usize::from(answer.forests != exchanged.forests);
+    }
+
+    /// Ends a test: it saw yes and no so many times or more, and the others a tenth as often.
+    fn met(&self, least: usize) {
+        let Seen { yes, no, .. } = self;
+        println!(
+            "{yes} yes, {no} no, {:?} after many forests, {} other numbers exchanged",
+            self.many, self.exchanged
+        );
+        assert!(*yes >= least && *no >= least, "{yes} yes and {no} no only");
+        assert!(self
+            .many
+            .into_iter()
+            .chain([self.exchanged])
+            .all(|seen| 10 * seen >= least));
+    }
+}
+
 /// Two trees after no move, one, two and many; some with other labels.
 #[test]
 fn pairs_of_trees() {
     let mut compare = Comparison::new(4);
-    let (mut yes, mut no) = (0, 0);
+    let mut seen = Seen::default();
     for turn in 0..12_000 {
         let leaves = 1 + compare.random.below([64, 8][turn % 2]);
         let set = labels(&mut compare.random, leaves);
@@ -138,14 +179,103 @@ fn pairs_of_trees() {
         }
         let text = tree.text(&mut compare.random, 5);
         let other = other.text(&mut compare.random, 5);
-        match compare.pair(&text, &other) {
-            Some(true) => yes += 1,
-            Some(false) => no += 1,
-            None => {}
+        let answers = [compare.pair(&text, &other), compare.pair(&other, &text)];
+        seen.count(leaves, answers);
+    }
+    compare.met("pairs of trees", &[(0, 16_000), (5, 2_000)]);
+    seen.met(2_000);
+}
+
+/// The numbers of forests of trees worked out by hand, in both orders, as texts and as rows.
+#[test]
+fn forests_compared() {
+    let samples = [
+        // Cut 0 prunes a clade that the other tree has not, and cut 1 leaves a forest of both.
+        ("(((1,2),3),4);", "((1,2),(3,4));", true, [1, 1]),
+        // No, and the leaves are all that both have.
+        ("(((1,2),3),4);", "(((3,4),1),2);", false, [4, 4]),
+        ("((((4,5),1),2),3);", "((((1,2),3),4),5);", false, [5, 5]),
+        // The forest of both is that without leaf 4, which is the last cut of the one and the fourth of the other.
+        ("(((1,2),3),4);", "(((1,4),2),3);", true, [4, 2]),
+        // The same with leaf 5, and (1,2) counts too.
+        ("((((1,2),3),4),5);", "((((1,2),5),3),4);", true, [6, 4]),
+        ("((((1,2),3),4),5);", "(((1,2),(4,5)),3);", false, [6, 6]),
+        // Equal topologies.
+        ("((1,2),3);", "(3,(2,1));", false, [0, 0]),
+        ("(10,2);", "(2,10);", false, [0, 0]),
+        ("7;", " 7 ;", false, [0, 0]),
+    ];
+    for (one, other, apart, forests) in samples {
+        let rows = [one, other].map(|text| norbelath::row(text.as_bytes()).unwrap());
+        for (i, forests) in forests.into_iter().enumerate() {
+            let texts = [[one, other], [other, one]][i];
+            let expected = Ok(Pair { apart, forests });
+            assert_eq!(
+                norbelath::pair(texts[0].as_bytes(), texts[1].as_bytes()),
+                expected,
+                "{texts:?}"
+            );
+            assert_eq!(
+                norbelath::row_pair(&rows[i], &rows[1 - i]),
+                expected,
+                "{texts:?}"
+            );
         }
     }
-    compare.met("pairs of trees", &[(0, 8_000), (5, 1_000)]);
-    assert!(yes >= 2_000 && no >= 2_000, "{yes} yes and {no} no only");
+}
+
+/// Unrooted trees have the number 0, apart or not, and a refusal has none.
+#[test]
+fn no_forests_compared() {
+    for (other, apart) in [("[&U](1,(2,3),4);", true), ("[&U]((1,2),3,4);", false)] {
+        let answer = norbelath::pair(b"[&U](1,2,(3,4));", other.as_bytes());
+        assert_eq!(answer, Ok(Pair { apart, forests: 0 }), "{other}");
+    }
+    let refused = |number, text, place| {
+        Err(Refusal {
+            number,
+            text,
+            place,
+        })
+    };
+    let one = b"(((1,2),3),4);";
+    assert_eq!(norbelath::pair(one, b"(1,2);x"), refused(1, 1, 6));
+    assert_eq!(norbelath::pair(one, b"(1,(2,3));"), refused(5, 1, 9));
+    assert_eq!(
+        norbelath::pair(one, b"[&U](1,2,(3,4));"),
+        refused(10, 1, 15)
+    );
+    assert_eq!(
+        norbelath::row_pair(&[7, 3, 7], &[7, 3, 3]),
+        refused(11, 1, 0)
+    );
+    assert_eq!(norbelath::row_pair(&[7, 3, 7], &[3, 3]), refused(5, 1, 0));
+}
+
+/// A comb of 64 leaves, and the same with the last leaf above 61 of the others: only the last of the 126 cuts leaves a
+/// forest of both, and 60 forks and all leaves count. Exchanged, leaf 64 comes before the leaves 62 and 63.
+#[test]
+fn most_forests_compared() {
+    let comb = |labels: &[u8]| {
+        let mut text = labels[0].to_string();
+        for label in &labels[1..] {
+            text = format!("({text},{label})");
+        }
+        text + ";"
+    };
+    let labels: Vec<u8> = (1..=64).collect();
+    let moved = [&labels[..61], &[64, 62, 63]].concat();
+    let texts = [comb(&labels), comb(&moved)];
+    let rows = texts.clone().map(|x| norbelath::row(x.as_bytes()).unwrap());
+    for (i, forests) in [124, 122].into_iter().enumerate() {
+        let expected = Ok(Pair {
+            apart: true,
+            forests,
+        });
+        let [one, other] = [&texts[i], &texts[1 - i]].map(|text| text.as_bytes());
+        assert_eq!(norbelath::pair(one, other), expected);
+        assert_eq!(norbelath::row_pair(&rows[i], &rows[1 - i]), expected);
+    }
 }
 
 /// The same for unrooted trees; at times one of the two is rooted.
@@ -172,10 +302,11 @@ fn pairs_of_unrooted_trees() {
         let text = tree.text_as(kinds[0], &mut compare.random, 5);
         let other = other.text_as(kinds[1], &mut compare.random, 5);
         compare.form(&text);
-        match compare.pair(&text, &other) {
-            Some(true) => yes += 1,
-            Some(false) => no += 1,
-            None => {}
+        if let Some(answer) = compare.pair(&text, &other) {
+            let rooted = kinds[0] == Kind::Rooted;
+            assert!(rooted || answer.forests == 0);
+            yes += usize::from(answer.apart);
+            no += usize::from(!answer.apart);
         }
     }
     compare.met(
@@ -526,7 +657,7 @@ fn slices_that_are_no_rows() {
 #[test]
 fn pairs_of_rows() {
     let mut compare = Comparison::new(22);
-    let (mut yes, mut no) = (0, 0);
+    let mut seen = Seen::default();
     for turn in 0..8_000 {
         let leaves = 1 + compare.random.below([64, 8][turn % 2]);
         let set = labels(&mut compare.random, leaves);
@@ -543,11 +674,7 @@ fn pairs_of_rows() {
         let [mut row, mut other] = [0, 1].map(|i| compare.row(&texts[i]).expect("a rooted tree"));
         let answer = compare.row_pair(&row, &other);
         assert_eq!(answer, norbelath::pair(&texts[0], &texts[1]).ok());
-        match answer {
-            Some(true) => yes += 1,
-            Some(false) => no += 1,
-            None => {}
-        }
+        seen.count(leaves, [answer, compare.row_pair(&other, &row)]);
         if turn % 3 > 0 {
             damage_row(&mut compare.random, &mut row);
         }
@@ -556,8 +683,8 @@ fn pairs_of_rows() {
         }
         compare.row_pair(&row, &other);
     }
-    compare.met("pairs of rows", &[(0, 20_000), (5, 400), (11, 6_000)]);
-    assert!(yes >= 1_500 && no >= 1_500, "{yes} yes and {no} no only");
+    compare.met("pairs of rows", &[(0, 25_000), (5, 800), (11, 6_000)]);
+    seen.met(1_500);
 }
 
 /// What the pair lister prints: small tables, whole and damaged, the largest, and texts around the limit.

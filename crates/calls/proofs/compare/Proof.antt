@@ -1,7 +1,7 @@
 -- `calls::compare` meets its contract.
 -- Assumes nothing.
 use borrow.Author.Needs.{needs}
-use Rattle.calls.proofs.Pairing.{stand-apart, one-kind, says-yes, says-no}
+use Rattle.calls.proofs.Pairing.{stand-apart, one-kind, answer-told}
 use Rattle.calls.proofs.compare.Statement.{statement}
 use Rattle.calls.proofs.compare.Tie as tie
 
@@ -17,19 +17,15 @@ returns c x y k l = stand-apart x y (c .before .before .args .behind) (c .before
 one-move-apart-requires : tie.Need-one-move-apart-requires
 one-move-apart-requires c κs = search needs
 
+pair-answer-requires : tie.Need-pair-answer-requires
+pair-answer-requires c κs = search needs
+
 returns-2 : tie.Need-returns-2
 returns-2 c x y k l =
     let d = c .before .before in
     let behind = d .before .before .args .behind in
-    let told = d .before .unlike .ensures x y k l in
-    says-yes x y behind told (d .if1 .left) (c .before .one-move-apart .result) (c .before .one-move-apart .ensures x y k l (one-kind x y behind told (d .if1 .left))) (c .if2 .taken)
-
-returns-3 : tie.Need-returns-3
-returns-3 c x y k l =
-    let d = c .before .before in
-    let behind = d .before .before .args .behind in
-    let told = d .before .unlike .ensures x y k l in
-    says-no x y behind told (d .if1 .left) (c .before .one-move-apart .result) (c .before .one-move-apart .ensures x y k l (one-kind x y behind told (d .if1 .left))) (c .if2 .left)
+    let alike = d .before .unlike .ensures x y k l in
+    answer-told x y behind alike (d .if1 .left) (c .before .one-move-apart .result) (c .before .one-move-apart .ensures x y k l (one-kind x y behind alike (d .if1 .left))) (c .pair-answer .ensures)
 
 pub compare-spec : {M : Type 1} → statement M
-compare-spec = tie.close (tie.spec unlike-requires sub-t6 returns one-move-apart-requires returns-2 returns-3)
+compare-spec = tie.close (tie.spec unlike-requires sub-t6 returns one-move-apart-requires pair-answer-requires returns-2)

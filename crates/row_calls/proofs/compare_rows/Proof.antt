@@ -1,7 +1,7 @@
 -- `row_calls::compare_rows` meets its contract.
 -- Assumes nothing.
 use borrow.Author.Needs.{needs}
-use Rattle.row_calls.proofs.Rowing.{row-some, labels-differ, rows-yes, rows-no}
+use Rattle.row_calls.proofs.Rowing.{row-some, labels-differ, rows-told}
 use Rattle.row_calls.proofs.compare_rows.Statement.{statement}
 use Rattle.row_calls.proofs.compare_rows.Tie as tie
 
@@ -28,29 +28,16 @@ tree-of-requires-2 c κs = search needs
 one-move-apart-requires : tie.Need-one-move-apart-requires
 one-move-apart-requires c κs = search needs
 
--- what the test of the two trees says
-abbrev Tried : Type 0
-Tried = tie.After-one-move-apart
-
-abbrev alike : Tried → tie.Else1
-alike d = d .before .before .before
-
-abbrev start : Tried → tie.Start
-start d = alike d .before .before .before .before .before
+pair-answer-requires : tie.Need-pair-answer-requires
+pair-answer-requires c κs = search needs
 
 returns-2 : tie.Need-returns-2
 returns-2 c =
     let d = c .before in
-    let s = start d in
-    rows-yes (s .args .row .now) (s .args .other .now) (s .pre .0) (s .pre .1) (alike d .if1 .left) (d .one-move-apart .result)
-    (d .one-move-apart .ensures _ _ (d .before .before .tree-of .ensures .keeps) (d .before .tree-of2 .ensures .keeps)) (c .if2 .taken)
-
-returns-3 : tie.Need-returns-3
-returns-3 c =
-    let d = c .before in
-    let s = start d in
-    rows-no (s .args .row .now) (s .args .other .now) (s .pre .0) (s .pre .1) (alike d .if1 .left) (d .one-move-apart .result)
-    (d .one-move-apart .ensures _ _ (d .before .before .tree-of .ensures .keeps) (d .before .tree-of2 .ensures .keeps)) (c .if2 .left)
+    let e = d .before .before .before in
+    let s = e .before .before .before .before .before in
+    rows-told (s .args .row .now) (s .args .other .now) (s .pre .0) (s .pre .1) (e .if1 .left) (d .one-move-apart .result)
+    (d .one-move-apart .ensures _ _ (d .before .before .tree-of .ensures .keeps) (d .before .tree-of2 .ensures .keeps)) (c .pair-answer .ensures)
 
 pub compare-rows-spec : {M : Type 1} → statement M
 compare-rows-spec =
@@ -63,5 +50,5 @@ compare-rows-spec =
     tree-of-requires
     tree-of-requires-2
     one-move-apart-requires
-    returns-2
-    returns-3)
+    pair-answer-requires
+    returns-2)

@@ -21,7 +21,7 @@ one-move-apart-requires c κs = search needs
 returns-2 : tie.Need-returns-2
 returns-2 c t u k l =
     let test = c .before .before .respun in
-    either-says t u (denied (OtherRoot (canon t) (canon u)) (c .before .if1 .left) (test .ensures t u k l)) (c .one-move-apart .result) (c .one-move-apart .ensures t u k l)
+    either-says t u (denied (OtherRoot (canon t) (canon u)) (c .before .if1 .left) (test .ensures t u k l)) (c .one-move-apart .result .yes) (c .one-move-apart .ensures t u k l .apart)
 
 pub one-move-apart-spec : {M : Type 1} → statement M
 one-move-apart-spec =
