@@ -4,6 +4,7 @@
     run.py [OUR_PROGRAM] [--interchanges | --islands] [--repeat N] [--picture FILE]
     run.py [OUR_PROGRAM] --support [--repeat N]
     run.py [OUR_PROGRAM] --rows [--repeat N]
+    run.py [OUR_PROGRAM] --plots [--repeat N]
     run.py [OUR_PROGRAM] --index [--repeat N]
 
 OUR_PROGRAM is the path of an executable that reads a table of trees from
@@ -39,6 +40,11 @@ out.  It and the plain one try the pair test on every two rows of some tables of
 64 leaves, and their pairs must be the same.  Times are those of one call, without
 reading the file and printing: the mean over a table, the best of N rounds, which
 the programs print with --repeat.
+
+With --plots OUR_PROGRAM is that of plots.c, built in the same way if it is left
+out.  It and the plain one plot each tree of the same tables, and the bits of their
+rows, and their columns, must be the same.  Times are taken as with --rows: of a plot
+call, and, beside that, of the form call on the same text.
 
 With --index OUR_PROGRAM is that of index.c, built in the same way if it is left
 out.  It and the plain one add the 160 trees of some full tables to an index, one
@@ -138,6 +144,11 @@ def build_rows(directory):
     return build_over_library("rows", directory)
 
 
+def build_plots(directory):
+    """Build the program of plots.c and give its path."""
+    return build_over_library("plots", directory)
+
+
 def build_index(directory):
     """Build the program of index.c and give its path."""
     return build_over_library("index", directory)
@@ -200,6 +211,12 @@ def trees_and_clades(output):
     return (int(first_line[1]), int(first_line[2])) if first_line else None
 
 
+def trees_and_nodes(output):
+    """Their numbers, from the first line; None if that is another line."""
+    first_line = re.match(rb"trees (\d+) nodes (\d+)\n", output)
+    return (int(first_line[1]), int(first_line[2])) if first_line else None
+
+
 class Sheet(NamedTuple):
     """What the programs print."""
 
@@ -216,6 +233,7 @@ INTERCHANGES = Sheet("--interchanges", None, ("plain",), "pairs", trees_and_pair
 ISLANDS = Sheet("--islands", None, ("plain",), "islands", trees_and_islands)
 SUPPORT = Sheet("--support", build_support, ("plain",), "clades", trees_and_clades, both_kinds=False)
 ROWS = Sheet("--rows", build_rows, ("plain",), "pairs", trees_and_pairs, both_kinds=False)
+PLOTS = Sheet("--plots", build_plots, ("plain",), "nodes", trees_and_nodes, both_kinds=False)
 INDEX = Sheet("--index", build_index, ("plain",), "pairs", trees_and_pairs, both_kinds=False)
 
 
@@ -358,6 +376,19 @@ def measure_rows(commands, repeat, directory):
         print(row((name,) + size, columns + ["%.2f" % ours[2]]), flush=True)
 
 
+def measure_plots(commands, repeat, directory):
+    """Print the table of the plot call, in microseconds, with the form call
+    behind it."""
+    columns = ("plot us", "plain us", "ratio", "form us", "plain us", "ratio")
+    print(row(("input", "trees", "leaves", PLOTS.counted), columns))
+    for name, path in inputs.write_inputs(os.path.join(directory, "inputs"), inputs.row_inputs()):
+        size = size_of(path, PLOTS, compared_output(commands, path))
+        times = zip(*(call_microseconds(command, path, repeat) for command in commands))
+        columns = [column for ours, plain in times for column in
+                   ("%.2f" % ours, "%.2f" % plain, "%.2f" % (ours / plain))]
+        print(row((name,) + size, columns), flush=True)
+
+
 # What the programs of --index measure, in this order.
 INDEX_TIMES = ("question", "check alone", "last addition", "all additions", "removal", "graph call")
 
@@ -375,7 +406,7 @@ def measure_index(commands, repeat, directory):
 
 
 # The sheets of which no process is timed, but each call on its own.
-MEASURED_BY_CALL = {ROWS: measure_rows, INDEX: measure_index}
+MEASURED_BY_CALL = {ROWS: measure_rows, PLOTS: measure_plots, INDEX: measure_index}
 
 
 def run(ours, sheet, repeat, drawn, directory):
@@ -428,6 +459,8 @@ def main(arguments):
                         help="OUR_PROGRAM is that of support.c; built for this machine if left out")
     others.add_argument("--rows", action="store_const", dest="sheet", const=ROWS,
                         help="OUR_PROGRAM is that of rows.c; built for this machine if left out")
+    others.add_argument("--plots", action="store_const", dest="sheet", const=PLOTS,
+                        help="OUR_PROGRAM is that of plots.c; built for this machine if left out")
     others.add_argument("--index", action="store_const", dest="sheet", const=INDEX,
                         help="OUR_PROGRAM is that of index.c; built for this machine if left out")
     parser.set_defaults(sheet=PAIRS)

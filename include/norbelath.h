@@ -1,11 +1,11 @@
 /*
  * Norbelath: binary trees, rooted or unrooted, as texts, and which of them are one prune and regraft apart.
  *
- * Sixteen calls over lent memory. They allocate nothing, keep nothing between calls but what an index in lent memory
+ * Seventeen calls over lent memory. They allocate nothing, keep nothing between calls but what an index in lent memory
  * holds, and may be called from several threads at once, while none adds to the same index or removes from it. On x86-64
- * the row and index calls use up to 20 KB of stack, the table call up to 120 KB, the support call up to 300 KB, the graph,
- * interchange and islands calls up to 360 KB, and the sheet call up to 440 KB. Any bytes may be given as a text or as an
- * index: what is not as it should be is refused, with the reason and the place.
+ * the row, plot and index calls use up to 20 KB of stack, the table call up to 120 KB, the support call up to 300 KB, the
+ * graph, interchange and islands calls up to 360 KB, and the sheet call up to 440 KB. Any bytes may be given as a text or
+ * as an index: what is not as it should be is refused, with the reason and the place.
  *
  * A text is a pointer and its length in bytes; it needs no byte 0 at its end. A lent slice is a pointer and its length in
  * elements. No pointer is NULL. The slices and numbers that a call may write overlap neither each other nor what it reads.
@@ -25,6 +25,7 @@
  *   row             numbers written              0
  *   row text        bytes written                0
  *   row pair        1 for yes, 0 for no          forests compared
+ *   plot            nodes                        0
  *   index add       the tree's number            0
  *   index           neighbours                   0
  *   neighbours
@@ -47,11 +48,16 @@
  *
  * [&U] marks an unrooted tree; [&R], or no mark, a rooted one. Only the canonical text of an unrooted tree has the mark.
  * The trees of a call are of one kind and have the same labels. The form, pair, table, graph, graph choosing, islands and
- * sheet calls take trees of either kind; the cut, interchange, support, row and index calls take rooted trees only.
+ * sheet calls take trees of either kind; the cut, interchange, support, row, plot and index calls take rooted trees only.
  *
  * A clade is the set of labels at and below a node, as a number with bit L - 1 set for each label L. The row of a rooted
  * tree is its label set, then its clades of two or more labels in ascending order: as many numbers as the tree has leaves.
  * A row that is lent to be read is the whole slice, so that its length is part of it.
+ *
+ * The plot of a rooted tree has a row, where each node is drawn from top to bottom, and a column, from left to right, for
+ * each node in the order in which they begin in the canonical text. Leaves have the rows 0, 1, 2 and on; a fork's row is
+ * half the sum of its children's, worked out in 64-bit floats as one sum and one product with 0.5. A node's column is the
+ * number of forks above it. A tree of n leaves has 2n - 1 nodes: at most 127.
  *
  * One move of a rooted tree takes the subtree at a node away and hangs it on an edge of the rest, or above its root. One
  * move of an unrooted tree cuts an edge and joins one side, by its cut end, to an edge of the other; either side may be
@@ -106,6 +112,8 @@ extern "C" {
 #define NORBELATH_SUPPORT_OUT 309
 #define NORBELATH_ROW 64
 #define NORBELATH_ROW_TEXT_OUT 309
+#define NORBELATH_PLOT_ROWS 127
+#define NORBELATH_PLOT_COLUMNS 127
 #define NORBELATH_INDEX_BYTES 60640
 #define NORBELATH_INDEX_LIST 160
 #define NORBELATH_SHEET_OUT 221542
@@ -245,6 +253,17 @@ uint8_t norbelath_row_text(const uint64_t *row, size_t row_len,
 uint8_t norbelath_row_pair(const uint64_t *row, size_t row_len,
                            const uint64_t *other, size_t other_len,
                            uint64_t *first, uint64_t *second);
+
+/*
+ * Plot call: the row and the column of every node of the one tree, a rooted one, of a text. rows[k] and columns[k] are
+ * those of node k. Each row is within 2 to the power -42 of the exact one, which is a whole number over 2 to the power 63.
+ * Any bits may stand in the lent cells, also those of a NaN. Node 0 is the root. The first child of a fork k is node
+ * k + 1; the second is node k + 2m, where m is how many leaves are below the first.
+ */
+uint8_t norbelath_plot(const uint8_t *text, size_t text_len,
+                       double *rows, size_t rows_len,
+                       uint16_t *columns, size_t columns_len,
+                       uint64_t *first, uint64_t *second);
 
 /*
  * Index add call: adds the one tree, a rooted one, of a text to the index in `memory`. It gets the smallest number that

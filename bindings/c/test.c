@@ -567,6 +567,66 @@ static void not_held(const char *what, size_t number)
     removal_refused(what, NORBELATH_INDEX_BYTES, number, NORBELATH_NOT_HELD);
 }
 
+/* The slices of the plot call, each with one cell more than is asked for, and what they hold before a call. */
+static double plot_rows[NORBELATH_PLOT_ROWS + 1], plot_rows_before[NORBELATH_PLOT_ROWS + 1];
+static uint16_t plot_columns[NORBELATH_PLOT_COLUMNS + 1], plot_columns_before[NORBELATH_PLOT_COLUMNS + 1];
+
+/* Bits of a row before a call: NaNs that signal or do not, of either sign, an infinity, -0, the least number, any. */
+static const uint64_t plot_noise[] = {
+    0x7FF0000000000001, 0x7FF8000000000000, 0xFFF4000000000BAD, 0xFFFFFFFFFFFFFFFF,
+    0xFFF0000000000000, 0x8000000000000000, 0x0000000000000001, 0xA5A5A5A5A5A5A5A5,
+};
+
+static struct reply plot(const char *text, size_t text_len, size_t rows_len, size_t columns_len)
+{
+    static size_t calls;
+    struct reply r = {99, 99, 99};
+    for (size_t i = 0; i < sizeof plot_rows / sizeof plot_rows[0]; i++) {
+        memcpy(&plot_rows_before[i], &plot_noise[(i + calls) % 8], sizeof plot_rows[0]);
+    }
+    calls++;
+    memset(plot_columns_before, UNTOUCHED, sizeof plot_columns);
+    memcpy(plot_rows, plot_rows_before, sizeof plot_rows);
+    memcpy(plot_columns, plot_columns_before, sizeof plot_columns);
+    r.result = norbelath_plot((const uint8_t *)text, text_len, plot_rows, rows_len, plot_columns, columns_len, &r.first,
+                              &r.second);
+    return r;
+}
+
+/* Whether the slices are as they were from this node on, by their bits. */
+static int plot_kept(size_t nodes)
+{
+    return memcmp(plot_rows + nodes, plot_rows_before + nodes, sizeof plot_rows - nodes * sizeof plot_rows[0]) == 0
+           && memcmp(plot_columns + nodes, plot_columns_before + nodes,
+                     sizeof plot_columns - nodes * sizeof plot_columns[0]) == 0;
+}
+
+static void plot_refused(const char *text, size_t text_len, size_t rows_len, size_t columns_len, uint8_t number,
+                         uint64_t place)
+{
+    struct reply r = plot(text, text_len, rows_len, columns_len);
+    check(same(r, number, 0, place), "plot", text, "another refusal was expected");
+    check(plot_kept(0), "plot", text, "a refusal changed a slice");
+}
+
+/* Rows are compared by their bits. */
+static void plots_in(size_t rows_len, size_t columns_len, const char *text, const double *expected_rows,
+                     const uint16_t *expected_columns, size_t nodes)
+{
+    struct reply r = plot(text, strlen(text), rows_len, columns_len);
+    check(same(r, NORBELATH_ACCEPTED, nodes, 0), "plot", text, "another answer was expected");
+    check(memcmp(plot_rows, expected_rows, nodes * sizeof plot_rows[0]) == 0, "plot", text, "other rows were expected");
+    check(memcmp(plot_columns, expected_columns, nodes * sizeof plot_columns[0]) == 0, "plot", text,
+          "other columns were expected");
+    check(plot_kept(nodes), "plot", text, "a slice was changed behind the nodes");
+}
+
+static void plots(const char *text, const double *expected_rows, const uint16_t *expected_columns, size_t nodes)
+{
+    plots_in(NORBELATH_PLOT_ROWS, NORBELATH_PLOT_COLUMNS, text, expected_rows, expected_columns, nodes);
+    plots_in(NORBELATH_PLOT_ROWS + 1, NORBELATH_PLOT_COLUMNS + 1, text, expected_rows, expected_columns, nodes);
+}
+
 /* One byte more than the sheet call asks for. */
 static uint8_t printed[NORBELATH_SHEET_OUT + 1];
 
@@ -1337,6 +1397,88 @@ static void row_pairs(void)
 #define NO_NEIGHBOURS (const uint16_t[]){0}, 0
 
 /* No tree is held, and a tree of any labels may be the first. */
+static void small_plots(void)
+{
+    plots(" 7 ;", (double[]){0}, (uint16_t[]){0}, 1);
+    plots("[&R](64,3);", (double[]){0.5, 0, 1}, (uint16_t[]){0, 1, 1}, 3);
+    /* The order is that of the canonical texts ((1,2),3); and (1,(2,3)); and ((1,(2,4)),(3,5)); */
+    plots("(3,(2,1));", (double[]){1.25, 0.5, 0, 1, 2}, (uint16_t[]){0, 1, 2, 2, 1}, 5);
+    plots("((3,2),1);", (double[]){0.75, 0, 1.5, 1, 2}, (uint16_t[]){0, 1, 1, 2, 2}, 5);
+    plots("((5,3),((4,2),1));", (double[]){2.125, 0.75, 0, 1.5, 1, 2, 3.5, 3, 4},
+          (uint16_t[]){0, 1, 2, 2, 3, 3, 1, 2, 2}, 9);
+}
+
+/* Combs of 64 leaves, with all brackets at the start or at the end: a fork's row is halfway between its children's. */
+static void largest_plots(void)
+{
+    static char text[1000];
+    static double expected_rows[NORBELATH_PLOT_ROWS];
+    static uint16_t expected_columns[NORBELATH_PLOT_COLUMNS];
+    char *at = text;
+    memset(at, '(', 63);
+    at += 63;
+    for (int label = 1; label <= 64; label++) {
+        at += sprintf(at, label == 1 ? "%d" : ",%d)", label);
+    }
+    sprintf(at, ";");
+    /* Forks 0 to 62 come first, the lowest of them last. Leaf i, the second child of fork 63 - i, is node 63 + i. */
+    expected_rows[63] = 0;
+    expected_columns[63] = 63;
+    for (int i = 1; i < 64; i++) {
+        expected_rows[63 + i] = i;
+        expected_columns[63 + i] = (uint16_t)(64 - i);
+        expected_rows[63 - i] = (expected_rows[64 - i] + i) * 0.5;
+        expected_columns[63 - i] = (uint16_t)(63 - i);
+    }
+    plots(text, expected_rows, expected_columns, 127);
+    /* 1 over 2 to the power 63 has no room behind 62. */
+    check(plot_rows[0] == 62, "plot", text, "the root was expected in row 62");
+
+    at = text;
+    for (int label = 1; label < 64; label++) {
+        at += sprintf(at, "(%d,", label);
+    }
+    at += sprintf(at, "64");
+    memset(at, ')', 63);
+    memcpy(at + 63, ";", 2);
+    /* Fork i is node 2i, and leaf i, its first child, node 2i + 1; the last leaf is the second child of the last fork. */
+    expected_rows[126] = 63;
+    expected_columns[126] = 63;
+    for (int i = 62; i >= 0; i--) {
+        expected_rows[2 * i + 1] = i;
+        expected_columns[2 * i + 1] = (uint16_t)(i + 1);
+        expected_rows[2 * i] = (i + expected_rows[2 * i + 2]) * 0.5;
+        expected_columns[2 * i] = (uint16_t)i;
+    }
+    plots(text, expected_rows, expected_columns, 127);
+}
+
+static void refused_plots(void)
+{
+    static char long_text[NORBELATH_MAX_TEXT + 1];
+    const char *texts_of_all_sorts[] = {"(1,2);", "", "(1,1);", "[&U]7;"};
+    size_t rows_len = NORBELATH_PLOT_ROWS, columns_len = NORBELATH_PLOT_COLUMNS;
+    memset(long_text, ' ', sizeof long_text);
+    for (size_t i = 0; i < 4; i++) {
+        const char *text = texts_of_all_sorts[i];
+        plot_refused(text, strlen(text), rows_len - 1, columns_len, NORBELATH_SHORT_SLICE, 0);
+        plot_refused(text, strlen(text), rows_len, columns_len - 1, NORBELATH_SHORT_SLICE, 0);
+        plot_refused(text, strlen(text), rows_len + 1, 3, NORBELATH_SHORT_SLICE, 0);
+        plot_refused(text, strlen(text), 0, 0, NORBELATH_SHORT_SLICE, 0);
+    }
+    plot_refused(long_text, sizeof long_text, rows_len, columns_len - 1, NORBELATH_SHORT_SLICE, 0);
+    plot_refused(long_text, sizeof long_text, rows_len, columns_len, NORBELATH_LONG_TEXT, 0);
+    plot_refused(long_text, NORBELATH_MAX_TEXT, rows_len, columns_len, NORBELATH_WRONG_BYTE, NORBELATH_MAX_TEXT);
+    plot_refused("", 0, rows_len, columns_len, NORBELATH_WRONG_BYTE, 0);
+    plot_refused("(1,2);x", 7, rows_len, columns_len, NORBELATH_WRONG_BYTE, 6);
+    plot_refused("(1,65);", 7, rows_len, columns_len, NORBELATH_BAD_LABEL, 3);
+    plot_refused("(1,1);", 6, rows_len, columns_len, NORBELATH_LABEL_AGAIN, 3);
+    memset(long_text, '(', 64);
+    plot_refused(long_text, 64, rows_len, columns_len, NORBELATH_TOO_DEEP, 63);
+    plot_refused("[&U]7;", 6, rows_len, columns_len, NORBELATH_OTHER_KIND, 5);
+    plot_refused("[&U](1,2,3);x", 13, rows_len, columns_len, NORBELATH_OTHER_KIND, 11);
+}
+
 static void empty_index(void)
 {
     const size_t numbers[] = {0, 1, 159, 160, 255, 256, (size_t)1 << 32, SIZE_MAX};
@@ -2036,6 +2178,9 @@ int main(void)
     refused_rows();
     slices_that_are_no_rows();
     row_pairs();
+    small_plots();
+    largest_plots();
+    refused_plots();
     empty_index();
     smallest_indices();
     small_index();

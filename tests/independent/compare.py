@@ -1,8 +1,8 @@
 #!/usr/bin/env python3
 """Compare a pair lister with reference.py on generated cases.
 
-    compare.py PROGRAM [--interchanges | --graphs | --support | --rows | --bound | --index | --islands]
-               [--seed S] [--count N]
+    compare.py PROGRAM [--interchanges | --graphs | --support | --rows | --bound | --plots
+               | --index | --islands] [--seed S] [--count N]
 
 PROGRAM is the path of an executable that reads a table of trees from standard
 input and writes the sheet to standard output; with --interchanges it is the
@@ -11,28 +11,30 @@ program of interchanges.c, and the sheet is that of the interchange call; with
 --support that of supports.c, and the sheet is that of the support call; with
 --rows that of rows.c, which makes many calls in one run, and the sheet has a line
 for each; with --bound that of bounds.c, which does so too, and the sheet is that of
-bound.py, with the number of forests that each pair test compared; with --index that
-of index.c, which does so on one memory, and the sheet is that of index.py; with
+bound.py, with the number of forests that each pair test compared; with --plots that
+of plots.c, which does so too, and the sheet is that of plots.py; with --index that of
+index.c, which does so on one memory, and the sheet is that of index.py; with
 --islands it is the program of islands, and the sheet has a line for each.  It is run
-once for each case of generate.py, or with --rows of generate_rows.py, or with --bound
-of generate_bound.py, or with --index of generate_index.py, and its output must be the
-reference's sheet, byte for byte.  With --bound each number must also be what a pair
-test can give: at most 2n - 2 for trees of n leaves, and 1 or more where they are
-rooted and one move apart.  A program that is ended by a signal, or runs
-longer than the time limit for one case, counts as a mismatch.  Its exit status and
-standard error are shown with a mismatch but not judged, since document 01 says
-nothing about them.  Only where the sheet is empty, which that of islands is for a
-table without trees, the status has to be 0 and standard error empty too: a program
-that could not read its input leaves its output empty as well.
+once for each case of generate.py, or with --rows of generate_rows.py, with --bound of
+generate_bound.py, with --plots of generate_plots.py, or with --index of
+generate_index.py, and its output must be the reference's sheet, byte for byte.  With
+--bound each number must also be what a pair test can give: at most 2n - 2 for trees of
+n leaves, and 1 or more where they are rooted and one move apart.  A program that is
+ended by a signal, or runs longer than the time limit for one case, counts as a
+mismatch.  Its exit status and standard error are shown with a mismatch but not judged,
+since document 01 says nothing about them.  Only where the sheet is empty, which that
+of islands is for a table without trees, the status has to be 0 and standard error
+empty too: a program that could not read its input leaves its output empty as well.
 
 The exit status is 1 if there was a mismatch, or if one of the refusal numbers
 1, 2, 3, 4, 5, 6, 8 and 10, with --rows and --bound 1, 2, 3, 4, 5, 8, 10 and 11, with
---index 1 to 8, 10, 12 and 13, never came up, or if there were too few tables, or calls, of
-a sort that the program can go wrong on, so that the comparison says less than it
-seems to; otherwise 0.  A case can be looked at again by writing the same cases to
-files: `generate.py S N OUTDIR`, with --rooted for the program of interchanges and
-with --support for that of support; `generate_rows.py S N OUTDIR` for that of rows,
-`generate_bound.py S N OUTDIR` for that of bounds, `generate_index.py S N OUTDIR` for
+--plots 1, 2, 3, 4, 7, 8 and 10, with --index 1 to 8, 10, 12 and 13, never came up, or
+if there were too few tables, or calls, of a sort that the program can go wrong on, so
+that the comparison says less than it seems to; otherwise 0.  A case can be looked at
+again by writing the same cases to files: `generate.py S N OUTDIR`, with --rooted for
+the program of interchanges and with --support for that of support; `generate_rows.py
+S N OUTDIR` for that of rows, `generate_bound.py S N OUTDIR` for that of bounds,
+`generate_plots.py S N OUTDIR` for that of plots, `generate_index.py S N OUTDIR` for
 that of the index.
 """
 
@@ -48,14 +50,18 @@ import bound
 import generate
 import generate_bound
 import generate_index
+import generate_plots
 import generate_rows
 import index
 import index_sorts
+import plot_sorts
+import plots
 import reference
 
 DEFAULT_COUNT = 5000
 REFUSALS_OF_THE_LISTER = (1, 2, 3, 4, 5, 6, 8, 10)
 REFUSALS_OF_ROWS = (1, 2, 3, 4, 5, 8, 10, 11)
+REFUSALS_OF_PLOTS = (1, 2, 3, 4, 7, 8, 10)
 REFUSALS_OF_THE_INDEX = (1, 2, 3, 4, 5, 6, 7, 8, 10, 12, 13)
 MISMATCHES_SHOWN = 5
 BYTES_SHOWN = 700
@@ -317,7 +323,7 @@ def first_other_call(calls, expected, output):
     lines = zip(calls, expected.splitlines(), output.splitlines() + [b""] * len(calls))
     for (name, arguments), line, other in lines:
         if line != other:
-            call = b"%s of %s" % (name, b" and ".join(b"%r" % argument for argument in arguments))
+            call = b"%s of %s" % (name, b" and ".join(b"%r" % (argument,) for argument in arguments))
             return "%s; %s; %s" % tuple(map(shown, (call, line, other)))
     return "none: there is more than a line for each"
 
@@ -594,6 +600,8 @@ ROWS = Subject(reference.rows_sheet, generate_rows.cases, row_sorts, ROW_FLOORS,
                reference.row_calls)
 BOUND = Subject(bound.bound_sheet, generate_bound.cases, bound_sorts, BOUND_FLOORS, REFUSALS_OF_ROWS, refusals_of_lines,
                 bound.bound_calls, bound_possible)
+PLOTS = Subject(plots.plots_sheet, generate_plots.cases, plot_sorts.plot_sorts, plot_sorts.PLOT_FLOORS,
+                REFUSALS_OF_PLOTS, refusals_of_lines, plots.plot_calls)
 INDEX = Subject(index.index_sheet, generate_index.cases, index_sorts.index_sorts, index_sorts.INDEX_FLOORS,
                 REFUSALS_OF_THE_INDEX, refusals_of_lines, index.index_calls)
 
@@ -615,6 +623,8 @@ def main(arguments):
                         help="the program is that of rows.c")
     others.add_argument("--bound", action="store_const", dest="subject", const=BOUND,
                         help="the program is that of bounds.c")
+    others.add_argument("--plots", action="store_const", dest="subject", const=PLOTS,
+                        help="the program is that of plots.c")
     others.add_argument("--index", action="store_const", dest="subject", const=INDEX,
                         help="the program is that of index.c")
     others.add_argument("--islands", action="store_const", dest="subject",

@@ -12,8 +12,9 @@
 //! clades of a tree as numbers, are compared without texts: the clades of a forest
 //! are worked out from those of its tree. The pair test also says how many forests
 //! it compared: on texts that is worked out behind the answer, on rows it is
-//! counted on the way. An index keeps the forest texts of its trees in a sorted
-//! vector, and looks up those of the tree that it is asked for.
+//! counted on the way. A plot is worked out from the last node to the first, without
+//! a walk down. An index keeps the forest texts of its trees in a sorted vector, and
+//! looks up those of the tree that it is asked for.
 //!
 //! Copies are trees of one topology. Merged, only the first of them stands in
 //! pairs; kept apart, each of them does. They are never a pair with each other.
@@ -258,6 +259,16 @@ pub fn row(text: &[u8]) -> Result<Vec<u64>, Refusal> {
     Ok(tree.rooted().map(rows::row_of).unwrap_or_default())
 }
 
+/// The row and the column of each node of a text's one tree, a rooted one, in
+/// the order in which they begin in the canonical text. Leaves have the rows 0,
+/// 1, 2 and on, a fork half the sum of its children's; the column is the number
+/// of forks above the node.
+pub fn plot(text: &[u8]) -> Result<(Vec<f64>, Vec<u16>), Refusal> {
+    refuse_long_text(text, 0)?;
+    let (tree, _) = read_one(text, 0, Takes::RootedOnly)?;
+    Ok(tree.rooted().map(Rooted::plot).unwrap_or_default())
+}
+
 /// The canonical text of the tree of a row.
 pub fn row_text(row: &[u64]) -> Result<Vec<u8>, Refusal> {
     Ok(given_row(row, 0)?.canonical_text().to_vec())
@@ -331,6 +342,40 @@ fn write_support_sheet(text: &[u8], out: &mut Vec<u8>) -> std::io::Result<()> {
     if trees > 0 {
         out.extend_from_slice(&support.majority);
         out.push(b'\n');
+    }
+    Ok(())
+}
+
+/// The plots of rooted trees, each up to its `;`, as text: the numbers of trees
+/// and nodes, and for each tree a line with the bits of each node's row and its
+/// column.
+pub fn plot_sheet(text: &[u8]) -> Vec<u8> {
+    let mut out = Vec::new();
+    write_plot_sheet(text, &mut out).expect("writing to a vector does not fail");
+    out
+}
+
+fn write_plot_sheet(text: &[u8], out: &mut Vec<u8>) -> std::io::Result<()> {
+    let mut plots = Vec::new();
+    let mut start = 0;
+    for tree in each_tree(text) {
+        match plot(tree) {
+            Ok(plot) => plots.push(plot),
+            Err(refusal) => {
+                let place = start + refusal.place;
+                return write_refusal(Refusal { place, ..refusal }, out);
+            }
+        }
+        start += tree.len();
+    }
+    let nodes: usize = plots.iter().map(|(rows, _)| rows.len()).sum();
+    writeln!(out, "trees {} nodes {nodes}", plots.len())?;
+    for (rows, columns) in plots {
+        let places = rows.iter().zip(columns);
+        let words: Vec<String> = places
+            .map(|(row, column)| format!("{:016x}:{column}", row.to_bits()))
+            .collect();
+        writeln!(out, "{}", words.join(" "))?;
     }
     Ok(())
 }

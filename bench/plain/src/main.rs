@@ -2,9 +2,10 @@
 //! `--interchanges`, the graph of interchanges; with `--islands`, the islands,
 //! in which copies are merged; with `--support`, how many trees have each clade
 //! and the majority tree; with `--rows`, the pairs that the pair test on every
-//! two rows finds; with `--index`, the neighbours of each tree in an index, its
-//! memory, and the memory without the first tree. `--rows --repeat N` and
-//! `--index --repeat N` print the shortest times of N rounds in place of that.
+//! two rows finds; with `--plots`, the plot of each tree; with `--index`, the
+//! neighbours of each tree in an index, its memory, and the memory without the
+//! first tree. `--rows --repeat N`, `--plots --repeat N` and `--index --repeat N`
+//! print the shortest times of N rounds in place of that.
 
 use std::hint::black_box;
 use std::io::{self, Read, Write};
@@ -25,6 +26,11 @@ fn main() -> io::Result<()> {
             let rounds = rounds.parse().expect("a number of rounds");
             return row_times(&read_input()?, rounds);
         }
+        ["--plots"] => plain::plot_sheet,
+        ["--plots", "--repeat", rounds] => {
+            let rounds = rounds.parse().expect("a number of rounds");
+            return plot_times(&read_input()?, rounds);
+        }
         ["--index"] => plain::index_sheet,
         ["--index", "--repeat", rounds] => {
             let rounds = rounds.parse().expect("a number of rounds");
@@ -44,6 +50,18 @@ fn read_input() -> io::Result<Vec<u8>> {
         .take(plain::MOST_BYTES as u64 + 1)
         .read_to_end(&mut text)?;
     Ok(text)
+}
+
+/// Prints microseconds: of a plot, and of a canonical text of the same trees.
+fn plot_times(text: &[u8], rounds: usize) -> io::Result<()> {
+    let trees: Vec<&[u8]> = plain::each_tree(text).collect();
+    let plot = shortest(rounds, trees.len(), |i| {
+        black_box(plain::plot(trees[i])).is_ok()
+    });
+    let form = shortest(rounds, trees.len(), |i| {
+        black_box(plain::form(trees[i])).is_ok()
+    });
+    writeln!(io::stdout().lock(), "{plot:.3} {form:.3}")
 }
 
 /// Prints microseconds: of a pair test on two rows, over every two of a table;

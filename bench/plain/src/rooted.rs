@@ -72,6 +72,30 @@ impl Rooted {
         &self.text
     }
 
+    /// The row and the column of each node, in the order of the nodes.
+    pub fn plot(&self) -> (Vec<f64>, Vec<u16>) {
+        // A node stands behind its parent, and the leaves by their rows.
+        let mut columns: Vec<u16> = Vec::with_capacity(self.nodes.len());
+        for node in &self.nodes {
+            columns.push(node.above.map_or(0, |(parent, _)| columns[parent] + 1));
+        }
+        let mut rows = vec![0.0; self.nodes.len()];
+        let mut leaves = self.labels.count_ones();
+        for (index, node) in self.nodes.iter().enumerate().rev() {
+            rows[index] = if self.text[node.text.start] == b'(' {
+                // The first child is the next node, which knows its sibling.
+                let second = self.nodes[index + 1]
+                    .above
+                    .map_or(0, |(_, sibling)| sibling);
+                (rows[index + 1] + rows[second]) * 0.5
+            } else {
+                leaves -= 1;
+                f64::from(leaves)
+            };
+        }
+        (rows, columns)
+    }
+
     /// The label sets of all forks, bit `label - 1` for each label.
     pub fn clades(&self) -> Vec<u64> {
         let mut sets = self.node_clades();

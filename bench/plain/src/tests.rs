@@ -1,5 +1,5 @@
 //! The samples of document 01, copies, interchanges, islands, clade support,
-//! unrooted trees and rows.
+//! unrooted trees, rows and plots.
 
 use super::*;
 
@@ -864,6 +864,27 @@ fn rows_of_trees() {
     assert_eq!(row(b"(1,2);x"), refused(BAD_BYTE, 6));
     assert_eq!(row(b"[&U]7;x"), refused(OTHER_KIND, 5));
     assert_eq!(row(&[b' '; MOST_BYTES + 1]), refused(TEXT_TOO_LONG, 0));
+}
+
+#[test]
+fn plots_of_trees() {
+    assert_eq!(plot(b" 7 ;"), Ok((vec![0.0], vec![0])));
+    assert_eq!(plot(b"(2,1);"), Ok((vec![0.5, 0.0, 1.0], vec![0, 1, 1])));
+    let rows = vec![1.25, 0.5, 0.0, 1.0, 2.0];
+    assert_eq!(plot(b"(3,(2,1));"), Ok((rows, vec![0, 1, 2, 2, 1])));
+    let rows = vec![0.75, 0.0, 1.5, 1.0, 2.0];
+    assert_eq!(plot(b"((3,2),1);"), Ok((rows, vec![0, 1, 1, 2, 2])));
+    let rows = vec![1.5, 0.5, 0.0, 1.0, 2.5, 2.0, 3.0];
+    let columns = vec![0, 1, 2, 2, 1, 2, 2];
+    assert_eq!(plot(b"((4,3),(1,2));"), Ok((rows, columns)));
+    let (rows, columns) = plot(left_comb(64).as_bytes()).unwrap();
+    assert_eq!((rows.len(), columns.len()), (127, 127));
+    // 62 and 2 to the power -63, which is more than a float can hold.
+    assert_eq!((rows[0], rows[62], rows[126]), (62.0, 0.5, 63.0));
+    assert_eq!((columns[62], columns[63], columns[126]), (62, 63, 1));
+    assert_eq!(plot(b"(1,2);x"), refused(BAD_BYTE, 6));
+    assert_eq!(plot(b"[&U]7;x"), refused(OTHER_KIND, 5));
+    assert_eq!(plot(&[b' '; MOST_BYTES + 1]), refused(TEXT_TOO_LONG, 0));
 }
 
 /// Every list of up to four numbers over three labels: each is a row exactly

@@ -7,7 +7,8 @@
 //!
 //! A tree with the mark `[&U]` before it is unrooted, and has three children at the top, or two leaves, or one; a tree
 //! with the mark `[&R]` or none is rooted. Every other fork has two children. The trees of a call are of one kind.
-//! [`cut`], [`interchanges`], [`support`], [`row`] and [`Index`] take rooted trees only, the other calls either kind.
+//! [`cut`], [`interchanges`], [`support`], [`row`], [`plot`] and [`Index`] take rooted trees only, the other calls either
+//! kind.
 //!
 //! Trees of one topology are copies of each other, however they are written; two copies are never a pair. The first
 //! position of a topology is the smallest position whose tree has it. [`graph`] and [`islands`] merge copies: only
@@ -17,6 +18,9 @@
 //! A rooted tree can also be held as its row of numbers: its label set, then its clades of two or more labels in
 //! ascending order, with bit L − 1 set for each label L. [`row`] and [`row_text`] turn texts into rows and back, and
 //! [`row_pair`] is [`pair`] on two rows.
+//!
+//! For figures, [`plot`] places every node of a rooted tree: its row, with the leaves in the rows 0, 1, 2 and on, and its
+//! column, the number of forks above it.
 //!
 //! Rooted trees that arrive singly are added to an [`Index`], which gives each a number and lists the neighbours of any
 //! of them. A tree that is removed leaves its number to a later one.
@@ -50,6 +54,9 @@
 //! assert_eq!(norbelath::row_text(&row).unwrap(), b"(1,(2,3));");
 //! let pair = norbelath::row_pair(&row, &[0b111, 0b011, 0b111]).unwrap();
 //! assert_eq!((pair.apart, pair.forests), (true, 1));
+//! let plot = norbelath::plot(b"(3,(2,1));").unwrap();
+//! assert_eq!(plot.rows, [1.25, 0.5, 0.0, 1.0, 2.0]);
+//! assert_eq!(plot.columns, [0, 1, 2, 2, 1]);
 //! let mut index = norbelath::Index::new();
 //! assert_eq!(index.add(b"((1,2),3);"), Ok(0));
 //! assert_eq!(index.add(b"(1,(2,3));"), Ok(1));
@@ -107,6 +114,10 @@ pub const SUPPORT_OUT: usize = 309;
 pub const ROW: usize = 64;
 /// The least length of the slice lent to [`row_text_into`].
 pub const ROW_TEXT_OUT: usize = 309;
+/// Nodes of the largest tree, and the least length of the slice lent to [`plot_into`] for the rows.
+pub const PLOT_ROWS: usize = 127;
+/// The least length of the slice lent to [`plot_into`] for the columns.
+pub const PLOT_COLUMNS: usize = 127;
 /// Bytes of an index, and the least length of the memory lent to [`index_add_into`], [`index_neighbours_into`] and
 /// [`index_remove_into`].
 pub const INDEX_BYTES: usize = 60_640;
@@ -236,6 +247,16 @@ extern "C" {
         row_len: usize,
         other: *const u64,
         other_len: usize,
+        first: *mut u64,
+        second: *mut u64,
+    ) -> u8;
+    fn norbelath_plot(
+        text: *const u8,
+        text_len: usize,
+        rows: *mut f64,
+        rows_len: usize,
+        columns: *mut u16,
+        columns_len: usize,
         first: *mut u64,
         second: *mut u64,
     ) -> u8;
@@ -445,6 +466,58 @@ pub struct Support {
     pub clades: Vec<(u64, u16)>,
     pub trees: usize,
     pub majority: Vec<u8>,
+}
+
+/// What [`plot`] gives: for each node, in the order in which they begin in the canonical text, its row and its column.
+///
+/// Node 0 is the root. Behind a fork stand its first child with all below it, and then its second child with all below.
+#[derive(Clone, Debug, PartialEq)]
+pub struct Plot {
+    pub rows: Vec<f64>,
+    pub columns: Vec<u16>,
+}
+
+/// What is drawn for a node.
+#[derive(Clone, Copy, Debug, PartialEq)]
+pub enum Drawing {
+    /// A leaf at its row.
+    Tip { row: f64 },
+    /// A fork at its row, which joins the rows of its first and its second child.
+    Fork { row: f64, first: f64, second: f64 },
+}
+
+impl Plot {
+    /// The drawing of each node, in the order of the nodes.
+    ///
+    /// The children of a fork are one column further: the first is the next node, and the second is the next node in
+    /// that column.
+    ///
+    /// ```
+    /// use norbelath::Drawing;
+    ///
+    /// let plot = norbelath::plot(b"((1,2),3);")?;
+    /// let drawings: Vec<Drawing> = plot.drawings().collect();
+    /// assert_eq!(drawings[0], Drawing::Fork { row: 1.25, first: 0.5, second: 2.0 });
+    /// assert_eq!(drawings[4], Drawing::Tip { row: 2.0 });
+    /// # Ok::<(), norbelath::Refusal>(())
+    /// ```
+    pub fn drawings(&self) -> impl Iterator<Item = Drawing> + '_ {
+        (0..self.rows.len().min(self.columns.len())).map(move |node| self.drawing(node))
+    }
+
+    /// The drawing of one node. A node without two children behind it is a tip, whatever the vectors hold.
+    fn drawing(&self, node: usize) -> Drawing {
+        let (row, above) = (self.rows[node], self.columns[node]);
+        let below = self.rows.iter().zip(&self.columns).skip(node + 1);
+        let mut children = below
+            .take_while(|(_, &column)| column > above)
+            .filter(|(_, &column)| column - above == 1)
+            .map(|(&row, _)| row);
+        match (children.next(), children.next()) {
+            (Some(first), Some(second)) => Drawing::Fork { row, first, second },
+            _ => Drawing::Tip { row },
+        }
+    }
 }
 
 /// An index of rooted trees of one label set: up to 160 of them, each under a number, and which of them are neighbours.
@@ -831,6 +904,25 @@ pub fn row_pair(row: &[u64], other: &[u64]) -> Result<Pair, Refusal> {
     })
 }
 
+/// Writes the row of each node of a text's one tree, a rooted one, into `rows`, of at least [`PLOT_ROWS`] floats, and
+/// its column into `columns`, of at least [`PLOT_COLUMNS`] numbers. Gives how many nodes the tree has. [`plot`] says
+/// what they are; any bits may stand in `rows` before.
+pub fn plot_into(text: &[u8], rows: &mut [f64], columns: &mut [u16]) -> Result<usize, Refusal> {
+    let (nodes, _) = answer(|first, second| unsafe {
+        norbelath_plot(
+            text.as_ptr(),
+            text.len(),
+            rows.as_mut_ptr(),
+            rows.len(),
+            columns.as_mut_ptr(),
+            columns.len(),
+            first,
+            second,
+        )
+    })?;
+    Ok(nodes)
+}
+
 /// Adds a text's one tree, a rooted one, to the index in `memory`, of at least [`INDEX_BYTES`] bytes; zeros are the
 /// empty index. Gives the tree's number, the smallest that no held tree has.
 ///
@@ -1036,6 +1128,28 @@ pub fn row_text(row: &[u64]) -> Result<Vec<u8>, Refusal> {
     let bytes = row_text_into(row, &mut out)?;
     out.truncate(bytes);
     Ok(out)
+}
+
+/// The row and the column of every node of a text's one tree, a rooted one, in the order in which the nodes begin in the
+/// canonical text. A tree of n leaves has 2n − 1 nodes.
+///
+/// Leaves have the rows 0, 1, 2 and on; a fork's row is half the sum of its children's, worked out in `f64` as one sum
+/// and one product with 0.5. Each row is within 2⁻⁴² of the exact one, which is a whole number over 2⁶³. The column of
+/// a node is the number of forks above it.
+///
+/// ```
+/// let plot = norbelath::plot(b"((1,2),(3,4));")?;
+/// assert_eq!(plot.rows, [1.5, 0.5, 0.0, 1.0, 2.5, 2.0, 3.0]);
+/// assert_eq!(plot.columns, [0, 1, 2, 2, 1, 2, 2]);
+/// # Ok::<(), norbelath::Refusal>(())
+/// ```
+pub fn plot(text: &[u8]) -> Result<Plot, Refusal> {
+    let mut rows = vec![0.0; PLOT_ROWS];
+    let mut columns = vec![0; PLOT_COLUMNS];
+    let nodes = plot_into(text, &mut rows, &mut columns)?;
+    rows.truncate(nodes);
+    columns.truncate(nodes);
+    Ok(Plot { rows, columns })
 }
 
 /// What the pair lister prints for a text: the sheet of its trees, or the line of its refusal.

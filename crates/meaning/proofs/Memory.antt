@@ -25,11 +25,11 @@ use Rattle.meaning.proofs.Sums.{map-length}
 use Rattle.meaning.proofs.Calls.{TableGiven, tells-accepted, form-tells, cut-tells, table-call-tells, graph-tells, firsts-tells, islands-tells, sheet-call-tells}
 
 -- a slice keeps its length where what is written fits
-pub written-length : (xs slice : List ℕ) → length xs ≤ length slice → length (written xs slice) ≡ length slice
+pub written-length : {A : Type 0} (xs slice : List A) → length xs ≤ length slice → length (written xs slice) ≡ length slice
 written-length xs slice h = simp (length-append, length-drop) (omega arith)
 
--- and its bytes behind that
-pub written-behind : (xs slice : List ℕ) (k : ℕ) → length xs ≤ k → drop k (written xs slice) ≡ drop k slice
+-- and its cells behind that
+pub written-behind : {A : Type 0} (xs slice : List A) (k : ℕ) → length xs ≤ k → drop k (written xs slice) ≡ drop k slice
 written-behind xs slice k h =
     let e : k ≡ length xs + (k - length xs) = omega arith in
     ap (λ (j : ℕ). drop j (written xs slice)) e ∙ drop-append-add xs (drop (length xs) slice) (k - length xs) ∙ drop-drop (k - length xs) (length xs) slice ∙ sym (ap (λ (j : ℕ). drop j slice) e)

@@ -51,7 +51,7 @@ pub record IslandsMemory : Type 0 where
   pub islands : List ℕ
 
 -- a slice with xs written from its start on, and nothing changed behind that
-abbrev pub written : List ℕ → List ℕ → List ℕ
+abbrev pub written : {A : Type 0} → List A → List A → List A
 written xs slice = xs ++ drop (length xs) slice
 
 -- a text is written: the answer is the number of its bytes

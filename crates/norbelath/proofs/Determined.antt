@@ -3,6 +3,7 @@
 use mathlib.Core.Path.{_≡_, refl, sym, ap, _∙_}
 use mathlib.Core.List.{List}
 use Prim.Native.Nat.{ℕ, zero, suc}
+use lib.Ieee.{Float}
 use Rattle.meaning.specs.Lists.{bit}
 use Rattle.meaning.specs.Answer.{Answer, accepted, refusal, Outcome, Comparison, TableSize, TableMemory, GraphSize, GraphMemory, FirstsMemory, IslandsMemory}
 use Rattle.meaning.specs.Copies.{Choice}
@@ -11,7 +12,8 @@ use Rattle.meaning.specs.Sheet.{SheetCall}
 use Rattle.meaning.proofs.Determined.{pair-determined, lists-determined, islands-determined, sheet-call-determined}
 use Rattle.holdings.specs.IndexCalls.{AddCall, AskCall, RemoveCall}
 use Rattle.holdings.proofs.IndexCalls.{add-determined, ask-determined, remove-determined}
-use Rattle.norbelath.specs.Coded.{coded, textValue, doneValue, pairValue, tableValue, graphValue, textCoded, doneCoded, tableCoded, graphCoded, firstsCoded, islandsCoded}
+use Rattle.plots.specs.PlotCall.{PlotMemory}
+use Rattle.norbelath.specs.Coded.{coded, textValue, doneValue, pairValue, tableValue, graphValue, textCoded, plotCoded, doneCoded, tableCoded, graphCoded, firstsCoded, islandsCoded}
 use Rattle.norbelath.specs.declared.Reply.{Reply}
 
 abbrev pub reply : ℕ → ℕ → ℕ → Reply
@@ -71,6 +73,15 @@ module _ {r r′ x x′ y y′ : ℕ} where
       let h = e ∙ sym f in (
         sym (text-back r x y) ∙ ap (λ (z : Outcome ℕ (List ℕ)). textNumbers (z .answer)) h ∙ text-back r′ x′ y′,
         ap (λ (z : Outcome ℕ (List ℕ)). z .memory) h,
+      )
+
+  pub plot-code-determined : {o : Outcome ℕ PlotMemory} {rows rows′ : List Float} {columns columns′ : List ℕ}
+      → plotCoded r x y rows columns ≡ o → plotCoded r′ x′ y′ rows′ columns′ ≡ o → (reply r x y ≡ reply r′ x′ y′) × (rows ≡ rows′) × (columns ≡ columns′)
+  plot-code-determined e f =
+      let h = e ∙ sym f in (
+        sym (text-back r x y) ∙ ap (λ (z : Outcome ℕ PlotMemory). textNumbers (z .answer)) h ∙ text-back r′ x′ y′,
+        ap (λ (z : Outcome ℕ PlotMemory). z .memory .rows) h,
+        ap (λ (z : Outcome ℕ PlotMemory). z .memory .columns) h,
       )
 
   pub sheet-code-determined : {s out o o′ : List ℕ} → SheetCall s out (textCoded r x y o) → SheetCall s out (textCoded r′ x′ y′ o′) → (reply r x y ≡ reply r′ x′ y′) × (o ≡ o′)

@@ -23,6 +23,8 @@ use Rattle.families.specs.RowCalls.{rowCall, rowTextCall, RowPairCall}
 use Rattle.families.proofs.SupportCall.{support-tells}
 use Rattle.families.proofs.RowCalls.{row-tells, row-text-tells}
 use Rattle.families.proofs.RowPair.{rows-tells, rows-line}
+use Rattle.plots.specs.PlotCall.{PlotMemory, plotOf, plotCall}
+use Rattle.plots.proofs.PlotCall.{plot-tells}
 use Rattle.holdings.specs.IndexCalls.{addTo, AddCall, adds, AskCall, removeFrom, RemoveCall, removes}
 use Rattle.holdings.proofs.IndexCalls.{add-tells, ask-tells, remove-tells}
 use Rattle.norbelath.specs.Coded.{Numbered}
@@ -59,6 +61,9 @@ pub row-pair-numbered : {xs ys : List ℕ} {a : Answer Comparison} → RowPairCa
 row-pair-numbered (RowPairCall.is-apart t u e h) = tt
 row-pair-numbered (RowPairCall.not-apart t u e h) = tt
 row-pair-numbered {xs} {ys} (RowPairCall.refuses n i p e) = from-one tt (rows-line (tells-refusal (rows-tells xs ys) e))
+
+pub plot-numbered : (s : List ℕ) (memory : PlotMemory) → Numbered (plotCall s memory .answer)
+plot-numbered s memory = concluded memory (λ x. plotOf (x .tree) memory) (plot-tells s memory) (λ n i p l. from-one tt (l .number)) (λ x. tt)
 
 pub pair-numbered : {s s′ : List ℕ} {a : Answer Comparison} → PairCall s s′ a → Numbered a
 pair-numbered (is-apart x y e h) = tt

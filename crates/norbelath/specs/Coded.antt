@@ -3,8 +3,11 @@
 use mathlib.Core.Bool.{true, false}
 use mathlib.Core.List.{List}
 use Prim.Native.Nat.{ℕ, zero, suc, _≤_}
+use lib.Ieee.{Float}
 use Rattle.meaning.specs.Answer.{Answer, accepted, refusal, Outcome, Comparison, TableSize, TableMemory, GraphSize, GraphMemory, FirstsMemory, IslandsMemory}
 use Rattle.meaning.specs.Copies.{Choice, merged, kept-apart}
+use Rattle.plots.specs.PlotCall.{PlotMemory}
+use Rattle.plot_calls.specs.Paper.{plotMemory}
 
 -- result 0: accepted, and the numbers say what; else the refusal's number, and the numbers are which text and the place
 abbrev pub coded : {A : Type 0} → (ℕ → ℕ → Answer A) → ℕ → ℕ → ℕ → Answer A
@@ -13,7 +16,7 @@ coded value (suc n) x y = refusal (suc n) x y
 
 -- Numbers beside a result 0 that stand for no value are taken for a refusal 0, which no call gives: so no two codes are one answer.
 
--- the form call, the cut call and the sheet call: the bytes written, and 0
+-- the form call, the cut call and the sheet call: the bytes written, and 0; the row call: its numbers, and 0; the plot call: the nodes, and 0
 abbrev pub textValue : ℕ → ℕ → Answer ℕ
 textValue x zero = accepted x
 textValue x (suc y) = refusal 0 x (suc y)
@@ -41,6 +44,9 @@ graphValue x y = accepted (record { trees = x; pairs = y })
 -- with the lent memory at exit
 abbrev pub textCoded : ℕ → ℕ → ℕ → List ℕ → Outcome ℕ (List ℕ)
 textCoded r x y out = record { answer = coded textValue r x y; memory = out }
+
+abbrev pub plotCoded : ℕ → ℕ → ℕ → List Float → List ℕ → Outcome ℕ PlotMemory
+plotCoded r x y rows columns = record { answer = coded textValue r x y; memory = plotMemory rows columns }
 
 abbrev pub doneCoded : ℕ → ℕ → ℕ → List ℕ → Outcome (Unit {0}) (List ℕ)
 doneCoded r x y memory = record { answer = coded doneValue r x y; memory = memory }

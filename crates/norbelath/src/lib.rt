@@ -3,6 +3,7 @@
 // caller.
 pub mod clade_exports;
 pub mod index_exports;
+pub mod plot_exports;
 pub mod row_exports;
 
 use calls::PairAnswer;

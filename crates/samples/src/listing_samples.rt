@@ -21,7 +21,7 @@ fn print_pairs(pairs: &[u16], number: usize) {
 }
 
 // The first numbers of a slice, as far as it has them.
-fn print_counts(counts: &[u16], number: usize) {
+pub fn print_counts(counts: &[u16], number: usize) {
     let mut i = 0;
     while i < counts.len() {
         if i < number {

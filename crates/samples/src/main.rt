@@ -1,6 +1,7 @@
 // Runs the samples that are not proved ones, and the edges of the calls, and prints a line for each.
 mod clade_samples;
 mod listing_samples;
+mod plot_samples;
 mod row_samples;
 mod unrooted_samples;
 
@@ -229,6 +230,7 @@ fn main() {
     listing_samples::graphs();
     clade_samples::supports();
     row_samples::rows();
+    plot_samples::plots();
     listing_samples::sheets();
     short_slices();
     long_texts();

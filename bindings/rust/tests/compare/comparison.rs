@@ -1,11 +1,9 @@
 //! Each call beside the independent implementation: its answer, and what it leaves in lent memory.
 
-use norbelath::{Copies, Graph, GraphSize, Interchanges, Islands, Pair, Refusal, Support};
-use norbelath::{
-    SupportSize, Table, TableSize, CUT_OUT, FORM_OUT, GRAPH_COUNTS, GRAPH_FIRSTS, GRAPH_PAIRS,
-};
-use norbelath::{ISLANDS, ROW, ROW_TEXT_OUT, SHEET_OUT, SUPPORT_CLADES, SUPPORT_OUT};
-use norbelath::{SUPPORT_TREES, TABLE_ENDS, TABLE_TEXTS};
+use norbelath::{Copies, Graph, GraphSize, Interchanges, Islands, Pair, Plot, Refusal, Support};
+use norbelath::{SupportSize, Table, TableSize, CUT_OUT, FORM_OUT, GRAPH_COUNTS, GRAPH_FIRSTS};
+use norbelath::{GRAPH_PAIRS, ISLANDS, PLOT_COLUMNS, PLOT_ROWS, ROW, ROW_TEXT_OUT, SHEET_OUT};
+use norbelath::{SUPPORT_CLADES, SUPPORT_OUT, SUPPORT_TREES, TABLE_ENDS, TABLE_TEXTS};
 
 use crate::generator::Random;
 
@@ -63,6 +61,19 @@ fn flat(pairs: &[(u16, u16)]) -> Vec<u16> {
     pairs.iter().flat_map(|&(i, j)| [i, j]).collect()
 }
 
+fn bits(rows: &[f64]) -> Vec<u64> {
+    rows.iter().map(|row| row.to_bits()).collect()
+}
+
+/// The bits of a float: of any, or of one that is no number, of which there are two sorts.
+fn of_noise(x: u64) -> u64 {
+    match x % 4 {
+        0 => x | 0x7ff0_0000_0000_0001,
+        1 => (x | 0x7ff0_0000_0000_0001) & !0x0008_0000_0000_0000,
+        _ => x,
+    }
+}
+
 /// The start of a text, for messages.
 pub fn shown(text: &[u8]) -> String {
     String::from_utf8_lossy(&text[..text.len().min(600)]).into_owned()
@@ -99,6 +110,11 @@ impl<T: Copy + PartialEq> Lent<T> {
             slice: before.clone(),
             before,
         }
+    }
+
+    /// The slice as it is now, where a copy of other elements was lent in its place.
+    pub fn changed_to(self, slice: Vec<T>) -> Lent<T> {
+        Lent { slice, ..self }
     }
 
     /// The slice begins with `written` and is unchanged behind it.
@@ -269,6 +285,45 @@ impl Comparison {
             expected,
             |row| norbelath::row_into(text, row),
         );
+        returned.ok()
+    }
+
+    /// Floats are compared as bits, so that noise which is no number is seen too. Gives the answer, for tests that go on
+    /// with it.
+    pub fn plot(&mut self, text: &[u8]) -> Option<Plot> {
+        let expected = plain::plot(text).map_err(refusal);
+        let returned = norbelath::plot(text);
+        let (rows, columns) = expected.clone().unwrap_or_default();
+        if let Ok(plot) = &returned {
+            assert_eq!(bits(&plot.rows), bits(&rows), "{}", shown(text));
+            assert_eq!(plot.columns, columns, "{}", shown(text));
+        }
+        let nodes = expected.map(|(rows, _)| rows.len());
+        assert_eq!(
+            returned.as_ref().map(|plot| plot.rows.len()),
+            nodes.as_ref().copied(),
+            "{}",
+            shown(text)
+        );
+        for short in [[false, false], [true, false], [false, true], [true, true]] {
+            let len = length(&mut self.random, short[0], PLOT_ROWS);
+            let before = Lent::new(&mut self.random, len, of_noise);
+            let mut lent_rows: Vec<f64> = before.slice.iter().map(|&x| f64::from_bits(x)).collect();
+            let len = length(&mut self.random, short[1], PLOT_COLUMNS);
+            let mut lent_columns = Lent::new(&mut self.random, len, |x| x as u16);
+            let answer = norbelath::plot_into(text, &mut lent_rows, &mut lent_columns.slice);
+            let lent_rows = before.changed_to(bits(&lent_rows));
+            if short == [false, false] {
+                assert_eq!(answer, nodes, "{}", shown(text));
+                assert!(lent_rows.holds(&bits(&rows)), "{}", shown(text));
+                assert!(lent_columns.holds(&columns), "{}", shown(text));
+            } else {
+                assert_eq!(answer, Err(SHORT), "{}", shown(text));
+                assert!(lent_rows.holds(&[]), "{}", shown(text));
+                assert!(lent_columns.holds(&[]), "{}", shown(text));
+            }
+            self.count(&answer);
+        }
         returned.ok()
     }
 

@@ -6,7 +6,8 @@ mod index;
 
 use comparison::Comparison;
 use generator::{chains, damage, damage_row, labels, most_clades, Kind, Random, Tree};
-use norbelath::{Graph, Islands, Pair, Refusal, Support, MAX_TEXT, MAX_TREES, SUPPORT_CLADES};
+use norbelath::SUPPORT_CLADES;
+use norbelath::{Drawing, Graph, Islands, Pair, Refusal, Support, MAX_TEXT, MAX_TREES};
 
 /// Every text of up to so many of these bytes.
 fn every_text(bytes: &[u8], most: usize) -> Vec<Vec<u8>> {
@@ -53,6 +54,7 @@ fn every_short_text() {
     for (i, text) in every_text(b"(),;12 0", 5).iter().enumerate() {
         compare.form(text);
         compare.row(text);
+        compare.plot(text);
         compare.cut(text, i as u64 % 4);
         compare.support(text);
         compare.pair(text, b"(2,1);");
@@ -84,6 +86,7 @@ fn every_short_mark_and_top() {
     for text in marks.into_iter().chain(tops) {
         compare.form(&text);
         compare.row(&text);
+        compare.plot(&text);
         compare.cut(&text, 0);
         compare.pair(&text, b"[&U](1,2);");
         compare.pair(b"[&U]1;", &text);
@@ -328,6 +331,7 @@ fn damaged_texts() {
         damage(&mut compare.random, &mut other);
         compare.form(&text);
         compare.row(&text);
+        compare.plot(&text);
         for cut in some_cuts(&mut compare.random, tree.nodes() - 1) {
             compare.cut(&text, cut);
         }
@@ -634,6 +638,49 @@ fn rows_of_trees() {
     compare.met("rows of trees", &[(0, 4_000), (7, 5_000), (10, 700)]);
 }
 
+/// The rows of a node and of all below it, as its canonical text is read; gives the row of the node, and adds the
+/// drawing of each, which a fork has its place for before its children have theirs.
+fn drawn(text: &mut &[u8], leaves: &mut u16, drawings: &mut Vec<Drawing>) -> f64 {
+    if text[0] != b'(' {
+        let digits = text.iter().take_while(|byte| byte.is_ascii_digit()).count();
+        *text = &text[digits..];
+        let row = f64::from(*leaves);
+        *leaves += 1;
+        drawings.push(Drawing::Tip { row });
+        return row;
+    }
+    let place = drawings.len();
+    drawings.push(Drawing::Tip { row: 0.0 });
+    *text = &text[1..];
+    let first = drawn(text, leaves, drawings);
+    *text = &text[1..];
+    let second = drawn(text, leaves, drawings);
+    *text = &text[1..];
+    let row = (first + second) * 0.5;
+    drawings[place] = Drawing::Fork { row, first, second };
+    row
+}
+
+/// Plots of trees of every number of leaves, rooted or not, and the drawings beside those of the canonical text.
+#[test]
+fn plots_of_trees() {
+    let mut compare = Comparison::new(29);
+    for (turn, leaves) in (1..=64).cycle().take(3_200).enumerate() {
+        let set = labels(&mut compare.random, leaves);
+        let tree = Tree::random(&mut compare.random, &set);
+        let kind = [Kind::Rooted, Kind::Rooted, Kind::Rooted, Kind::Unrooted][turn % 4];
+        let text = tree.text_as(kind, &mut compare.random, 5);
+        if let Some(plot) = compare.plot(&text) {
+            assert_eq!(plot.rows.len(), 2 * leaves - 1);
+            let canonical = norbelath::form(&text).expect("a tree");
+            let mut expected = vec![];
+            drawn(&mut &canonical[..], &mut 0, &mut expected);
+            assert_eq!(plot.drawings().collect::<Vec<_>>(), expected);
+        }
+    }
+    compare.met("plots of trees", &[(0, 2_000), (7, 9_000), (10, 700)]);
+}
+
 /// Every list of up to five numbers over three labels, and damaged rows of every number of leaves.
 #[test]
 fn slices_that_are_no_rows() {
@@ -769,6 +816,7 @@ fn long_texts() {
         }
         compare.form(&text);
         compare.row(&text);
+        compare.plot(&text);
         compare.cut(&text, 0);
         compare.pair(&text, &tree);
         compare.pair(&tree, &text);
@@ -803,6 +851,7 @@ fn deep_texts() {
         text.push(b';');
         compare.form(&text);
         compare.row(&text);
+        compare.plot(&text);
         compare.cut(&text, turn as u64 % 130);
         compare.pair(&text, b"1;");
         compare.table(&text);

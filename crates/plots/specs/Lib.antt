@@ -1,0 +1,3 @@
+pub mod Plot
+pub mod PlotCall
+pub mod PlotRefusals
