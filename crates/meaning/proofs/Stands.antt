@@ -21,7 +21,7 @@ text-stands : {x : Kinded} {y : List ℕ} → TreeText x y → canonAs (x .kind)
 text-stands (is-tree {k} {t} m x y G) = standing-own k t (G .distinct)
 
 -- so do trees of one kind
-abbrev OfKind : Kind → List Kinded → Type 0
+abbrev pub OfKind : Kind → List Kinded → Type 0
 OfKind k [] = Unit {0}
 OfKind k (x ∷ xs) = (x .kind ≡ k) × OfKind k xs
 
@@ -31,7 +31,7 @@ texts-stand k (more {t} T R) o zero h = subst (λ (j : Kind). canonAs j (t .tree
 texts-stand k (more T R) o (suc i) h = texts-stand k R (o .1) i (omega arith)
 
 -- all are of the first one's kind
-alike-kind : (x : Kinded) (xs : List Kinded) → Alike x xs → OfKind (x .kind) xs
+pub alike-kind : (x : Kinded) (xs : List Kinded) → Alike x xs → OfKind (x .kind) xs
 unfolding Alike
 alike-kind x [] h = tt
 alike-kind x (y ∷ ys) h = (sym (h .0 .kinds), alike-kind x ys (h .1))
