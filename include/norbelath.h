@@ -2,13 +2,30 @@
  * Norbelath: binary trees, rooted or unrooted, as texts, and which of them are one prune and regraft apart.
  *
  * Seventeen calls over lent memory. They allocate nothing, keep nothing between calls but what an index in lent memory
- * holds, and may be called from several threads at once, while none adds to the same index or removes from it. On x86-64
- * the row, plot and index calls use up to 20 KB of stack, the table call up to 120 KB, the support call up to 300 KB, the
- * graph, interchange and islands calls up to 360 KB, and the sheet call up to 440 KB. Any bytes may be given as a text or
- * as an index: what is not as it should be is refused, with the reason and the place.
+ * holds, and may be called from several threads at once, while none adds to the same index or removes from it. Any bytes
+ * may be given as a text or as an index: what is not as it should be is refused, with the reason and the place.
  *
  * A text is a pointer and its length in bytes; it needs no byte 0 at its end. A lent slice is a pointer and its length in
- * elements. No pointer is NULL. The slices and numbers that a call may write overlap neither each other nor what it reads.
+ * elements. No pointer is NULL, not even one with the length 0. The slices and numbers that a call may write overlap
+ * neither each other nor what it reads.
+ *
+ * TREE TEXTS
+ *
+ *   table = tree tree ...                  0 to 160 trees, all of one kind and with the same labels
+ *   tree  = node ;   or   [&R] node ;      a rooted tree
+ *           [&U] top ;                     an unrooted tree
+ *   node  = label    or   ( node , node )
+ *   top   = label    or   ( label , label )   or   ( node , node , node )
+ *   label = a run of decimal digits        whose value is 1 to 64, no value twice in a tree; zeros in front are allowed
+ *
+ * Blanks (space, tab, CR, LF) may stand before each label, sign and mark, and behind the last `;`; a mark has none inside.
+ * At most 63 brackets are open at once. A text has at most 65,535 bytes.
+ *
+ * A text of the form, cut, pair, row, plot and index add calls is one tree, that of the others a table. The form, pair,
+ * table, graph, graph choosing, islands and sheet calls take trees of either kind; the cut, interchange, support, row,
+ * plot and index add calls take rooted trees only. A canonical text has no blanks, and a mark only of an unrooted tree.
+ *
+ * ANSWERS
  *
  * The result is 0 where the call is accepted, and else the number of the refusal. The lent numbers receive:
  *
@@ -38,17 +55,7 @@
  * An accepted call writes from the start of each lent slice on and changes nothing behind what it writes; of an index,
  * nothing behind its 60,640 bytes. A refusal changes no lent slice.
  *
- * A tree is written as follows; blanks (space, tab, CR, LF) may stand before each label, sign and mark, and a mark has
- * none inside:
- *
- *   tree     = node ;   or  [&R] node ;   or  [&U] top ;
- *   node     = label    or  ( node , node )
- *   top      = label    or  ( label , label )   or  ( node , node , node )
- *   label    = a run of decimal digits whose value is 1 to 64, no value twice in a tree
- *
- * [&U] marks an unrooted tree; [&R], or no mark, a rooted one. Only the canonical text of an unrooted tree has the mark.
- * The trees of a call are of one kind and have the same labels. The form, pair, table, graph, graph choosing, islands and
- * sheet calls take trees of either kind; the cut, interchange, support, row, plot and index calls take rooted trees only.
+ * TREES
  *
  * A clade is the set of labels at and below a node, as a number with bit L - 1 set for each label L. The row of a rooted
  * tree is its label set, then its clades of two or more labels in ascending order: as many numbers as the tree has leaves.
@@ -90,9 +97,17 @@
 extern "C" {
 #endif
 
-/* Limits: bytes of a text, trees of a table or an index. */
+/* The version of this header. */
+#define NORBELATH_VERSION_MAJOR 1
+#define NORBELATH_VERSION_MINOR 0
+#define NORBELATH_VERSION_PATCH 0
+#define NORBELATH_VERSION "1.0.0"
+
+/* Limits: bytes of a text, trees of a table or an index, the largest label, brackets that are open at once. */
 #define NORBELATH_MAX_TEXT 65535
 #define NORBELATH_MAX_TREES 160
+#define NORBELATH_MAX_LABEL 64
+#define NORBELATH_MAX_DEPTH 63
 
 /*
  * The least lengths of the lent slices, in elements. A shorter slice is refused, a longer one is used as far as
@@ -118,13 +133,36 @@ extern "C" {
 #define NORBELATH_INDEX_LIST 160
 #define NORBELATH_SHEET_OUT 221542
 
+/*
+ * The most stack that a call uses on x86-64, whatever it is given, in bytes. A thread needs that much for the call beside
+ * what it uses itself. Other machines have other frames.
+ */
+#define NORBELATH_FORM_STACK (16 * 1024)
+#define NORBELATH_CUT_STACK (16 * 1024)
+#define NORBELATH_PAIR_STACK (16 * 1024)
+#define NORBELATH_TABLE_STACK (120 * 1024)
+#define NORBELATH_GRAPH_STACK (340 * 1024)
+#define NORBELATH_GRAPH_CHOOSING_STACK (340 * 1024)
+#define NORBELATH_INTERCHANGES_STACK (140 * 1024)
+#define NORBELATH_ISLANDS_STACK (360 * 1024)
+#define NORBELATH_SUPPORT_STACK (300 * 1024)
+#define NORBELATH_ROW_STACK (17 * 1024)
+#define NORBELATH_ROW_TEXT_STACK (11 * 1024)
+#define NORBELATH_ROW_PAIR_STACK (11 * 1024)
+#define NORBELATH_PLOT_STACK (16 * 1024)
+#define NORBELATH_INDEX_ADD_STACK (18 * 1024)
+#define NORBELATH_INDEX_NEIGHBOURS_STACK (18 * 1024)
+#define NORBELATH_INDEX_REMOVE_STACK (15 * 1024)
+#define NORBELATH_SHEET_STACK (440 * 1024)
+
 /* The choices of the graph choosing call. Any number but 0 keeps copies apart. */
 #define NORBELATH_MERGE_COPIES 0
 #define NORBELATH_KEEP_COPIES 1
 
 /*
- * Results. The place of a refusal is given behind each; 7, 8, 9, 11, 12 and 13 have place 0, and so has every refusal of
- * the row text and row pair calls, and 6 of the index add call.
+ * Results. A result that is not listed is a refusal of a later version, so take any but 0 for a refusal. The place of a
+ * refusal is given behind each; 7, 8, 9, 11, 12 and 13 have place 0, and so has every refusal of the row text and row
+ * pair calls, and 6 of the index add call.
  */
 #define NORBELATH_ACCEPTED 0
 #define NORBELATH_WRONG_BYTE 1     /* a byte that cannot stand there, or the text ends too soon: that byte, or the length */

@@ -1,4 +1,7 @@
-/* Calls each function of the library and compares with known answers. The exit status is 1 if one differs. */
+/*
+ * Calls each function of the library and compares with known answers. Prints for each call the refusals that it gave, in
+ * a line `norbelath_form refuses 1 2 3`. The exit status is 1 if an answer differs.
+ */
 #include <stdio.h>
 #include <stdlib.h>
 #include <string.h>
@@ -35,6 +38,42 @@ static int untouched(const void *memory, size_t from, size_t to)
     return 1;
 }
 
+/* The exported calls, and which results each of them gave. */
+static struct {
+    const char *name;
+    uint8_t gave[UINT8_MAX + 1];
+} seen[] = {
+    {"form", {0}}, {"cut", {0}}, {"pair", {0}}, {"table", {0}}, {"graph", {0}}, {"graph_choosing", {0}},
+    {"interchanges", {0}}, {"islands", {0}}, {"support", {0}}, {"row", {0}}, {"row_text", {0}}, {"row_pair", {0}},
+    {"plot", {0}}, {"index_add", {0}}, {"index_neighbours", {0}}, {"index_remove", {0}}, {"sheet", {0}},
+};
+
+#define SEEN (sizeof seen / sizeof seen[0])
+
+/* Notes the result of a call, and gives it. */
+static uint8_t noted(const char *call, uint8_t result)
+{
+    size_t i = 0;
+    while (strcmp(seen[i].name, call) != 0) {
+        i++;
+    }
+    seen[i].gave[result] = 1;
+    return result;
+}
+
+static void print_refusals(void)
+{
+    for (size_t i = 0; i < SEEN; i++) {
+        printf("norbelath_%s refuses", seen[i].name);
+        for (unsigned number = 1; number <= UINT8_MAX; number++) {
+            if (seen[i].gave[number]) {
+                printf(" %u", number);
+            }
+        }
+        printf("\n");
+    }
+}
+
 /* The result and the two numbers of a call. */
 struct reply {
     uint8_t result;
@@ -67,7 +106,7 @@ static void form(const char *text, size_t out_len, const char *expected, uint8_t
     uint8_t out[NORBELATH_FORM_OUT + 1];
     struct reply r = {99, 99, 99};
     memset(out, UNTOUCHED, sizeof out);
-    r.result = norbelath_form((const uint8_t *)text, strlen(text), out, out_len, &r.first, &r.second);
+    r.result = noted("form", norbelath_form((const uint8_t *)text, strlen(text), out, out_len, &r.first, &r.second));
     text_answer("form", text, r, out, sizeof out, expected, number, place);
 }
 
@@ -77,15 +116,16 @@ static void cut(const char *text, uint64_t number_of_cut, size_t out_len, const 
     uint8_t out[NORBELATH_CUT_OUT + 1];
     struct reply r = {99, 99, 99};
     memset(out, UNTOUCHED, sizeof out);
-    r.result = norbelath_cut((const uint8_t *)text, strlen(text), number_of_cut, out, out_len, &r.first, &r.second);
+    r.result = noted("cut", norbelath_cut((const uint8_t *)text, strlen(text), number_of_cut, out, out_len, &r.first,
+                                          &r.second));
     text_answer("cut", text, r, out, sizeof out, expected, number, place);
 }
 
 static void pair(const char *text, const char *other, uint8_t result, uint64_t first, uint64_t second)
 {
     struct reply r = {99, 99, 99};
-    r.result = norbelath_pair((const uint8_t *)text, strlen(text), (const uint8_t *)other, strlen(other), &r.first,
-                              &r.second);
+    r.result = noted("pair", norbelath_pair((const uint8_t *)text, strlen(text), (const uint8_t *)other,
+                                            strlen(other), &r.first, &r.second));
     check(same(r, result, first, second), "pair", text, "another answer was expected");
 }
 
@@ -102,7 +142,8 @@ static struct reply table(const char *text, size_t text_len, size_t texts_len, s
     struct reply r = {99, 99, 99};
     memset(texts, UNTOUCHED, sizeof texts);
     memset(ends, UNTOUCHED, sizeof ends);
-    r.result = norbelath_table((const uint8_t *)text, text_len, texts, texts_len, ends, ends_len, &r.first, &r.second);
+    r.result = noted("table", norbelath_table((const uint8_t *)text, text_len, texts, texts_len, ends, ends_len,
+                                              &r.first, &r.second));
     return r;
 }
 
@@ -138,15 +179,15 @@ struct lister {
 
 static uint8_t call_graph(const uint8_t *text, size_t text_len, struct lent lent, uint64_t *first, uint64_t *second)
 {
-    return norbelath_graph(text, text_len, pairs, lent.pairs, counts, lent.counts, first_of, lent.firsts, first,
-                           second);
+    return noted("graph", norbelath_graph(text, text_len, pairs, lent.pairs, counts, lent.counts, first_of,
+                                          lent.firsts, first, second));
 }
 
 static uint8_t call_choosing(const uint8_t *text, size_t text_len, uint8_t choice, struct lent lent, uint64_t *first,
                              uint64_t *second)
 {
-    return norbelath_graph_choosing(text, text_len, choice, pairs, lent.pairs, counts, lent.counts, first_of,
-                                    lent.firsts, first, second);
+    return noted("graph_choosing", norbelath_graph_choosing(text, text_len, choice, pairs, lent.pairs, counts,
+                                                            lent.counts, first_of, lent.firsts, first, second));
 }
 
 static uint8_t call_merging(const uint8_t *text, size_t text_len, struct lent lent, uint64_t *first, uint64_t *second)
@@ -167,13 +208,14 @@ static uint8_t call_with_255(const uint8_t *text, size_t text_len, struct lent l
 static uint8_t call_interchanges(const uint8_t *text, size_t text_len, struct lent lent, uint64_t *first,
                                  uint64_t *second)
 {
-    return norbelath_interchanges(text, text_len, pairs, lent.pairs, counts, lent.counts, first, second);
+    return noted("interchanges", norbelath_interchanges(text, text_len, pairs, lent.pairs, counts, lent.counts,
+                                                        first, second));
 }
 
 static uint8_t call_islands(const uint8_t *text, size_t text_len, struct lent lent, uint64_t *first, uint64_t *second)
 {
-    return norbelath_islands(text, text_len, pairs, lent.pairs, counts, lent.counts, first_of, lent.firsts, island_of,
-                             lent.islands, first, second);
+    return noted("islands", norbelath_islands(text, text_len, pairs, lent.pairs, counts, lent.counts, first_of,
+                                              lent.firsts, island_of, lent.islands, first, second));
 }
 
 static const struct lister listers[] = {
@@ -266,8 +308,8 @@ static struct reply support(const char *text, size_t text_len, struct support_le
     memset(clades, UNTOUCHED, sizeof clades);
     memset(trees_with, UNTOUCHED, sizeof trees_with);
     memset(majority, UNTOUCHED, sizeof majority);
-    r.result = norbelath_support((const uint8_t *)text, text_len, clades, lent.clades, trees_with, lent.trees,
-                                 majority, lent.out, &r.first, &r.second, third);
+    r.result = noted("support", norbelath_support((const uint8_t *)text, text_len, clades, lent.clades, trees_with,
+                                                  lent.trees, majority, lent.out, &r.first, &r.second, third));
     return r;
 }
 
@@ -369,7 +411,7 @@ static struct reply call_row(const char *text, size_t text_len, size_t row_len)
 {
     struct reply r = {99, 99, 99};
     memset(row_of, UNTOUCHED, sizeof row_of);
-    r.result = norbelath_row((const uint8_t *)text, text_len, row_of, row_len, &r.first, &r.second);
+    r.result = noted("row", norbelath_row((const uint8_t *)text, text_len, row_of, row_len, &r.first, &r.second));
     return r;
 }
 
@@ -386,7 +428,7 @@ static void row_text(const char *what, const uint64_t *row, size_t row_len, size
 {
     struct reply r = {99, 99, 99};
     memset(row_text_of, UNTOUCHED, sizeof row_text_of);
-    r.result = norbelath_row_text(row, row_len, row_text_of, out_len, &r.first, &r.second);
+    r.result = noted("row_text", norbelath_row_text(row, row_len, row_text_of, out_len, &r.first, &r.second));
     text_answer("row text", what, r, row_text_of, sizeof row_text_of, expected, number, 0);
 }
 
@@ -394,7 +436,7 @@ static void row_pair(const char *what, const uint64_t *row, size_t row_len, cons
                      uint8_t result, uint64_t first, uint64_t second)
 {
     struct reply r = {99, 99, 99};
-    r.result = norbelath_row_pair(row, row_len, other, other_len, &r.first, &r.second);
+    r.result = noted("row_pair", norbelath_row_pair(row, row_len, other, other_len, &r.first, &r.second));
     check(same(r, result, first, second), "row pair", what, "another answer was expected");
 }
 
@@ -453,7 +495,8 @@ static struct reply call_index_add(const char *text, size_t text_len, size_t mem
 {
     struct reply r = {99, 99, 99};
     memcpy(memory_before, index_memory, sizeof index_memory);
-    r.result = norbelath_index_add(index_memory, memory_len, (const uint8_t *)text, text_len, &r.first, &r.second);
+    r.result = noted("index_add", norbelath_index_add(index_memory, memory_len, (const uint8_t *)text, text_len,
+                                                      &r.first, &r.second));
     check(untouched(index_memory, NORBELATH_INDEX_BYTES, sizeof index_memory), "index add", text,
           "the memory was changed behind the index");
     return r;
@@ -483,7 +526,8 @@ static struct reply call_index_neighbours(const char *what, size_t memory_len, s
     struct reply r = {99, 99, 99};
     memset(index_list, UNTOUCHED, sizeof index_list);
     memcpy(memory_before, index_memory, sizeof index_memory);
-    r.result = norbelath_index_neighbours(index_memory, memory_len, number, index_list, list_len, &r.first, &r.second);
+    r.result = noted("index_neighbours", norbelath_index_neighbours(index_memory, memory_len, number, index_list,
+                                                                    list_len, &r.first, &r.second));
     check(memcmp(index_memory, memory_before, sizeof index_memory) == 0, "index neighbours", what,
           "the memory was changed");
     return r;
@@ -517,7 +561,7 @@ static struct reply call_index_remove(const char *what, size_t memory_len, size_
 {
     struct reply r = {99, 99, 99};
     memcpy(memory_before, index_memory, sizeof index_memory);
-    r.result = norbelath_index_remove(index_memory, memory_len, number, &r.first, &r.second);
+    r.result = noted("index_remove", norbelath_index_remove(index_memory, memory_len, number, &r.first, &r.second));
     check(untouched(index_memory, NORBELATH_INDEX_BYTES, sizeof index_memory), "index remove", what,
           "the memory was changed behind the index");
     return r;
@@ -588,8 +632,8 @@ static struct reply plot(const char *text, size_t text_len, size_t rows_len, siz
     memset(plot_columns_before, UNTOUCHED, sizeof plot_columns);
     memcpy(plot_rows, plot_rows_before, sizeof plot_rows);
     memcpy(plot_columns, plot_columns_before, sizeof plot_columns);
-    r.result = norbelath_plot((const uint8_t *)text, text_len, plot_rows, rows_len, plot_columns, columns_len, &r.first,
-                              &r.second);
+    r.result = noted("plot", norbelath_plot((const uint8_t *)text, text_len, plot_rows, rows_len, plot_columns,
+                                            columns_len, &r.first, &r.second));
     return r;
 }
 
@@ -634,7 +678,8 @@ static void sheet(const char *text, size_t text_len, size_t out_len, const char 
 {
     struct reply r = {99, 99, 99};
     memset(printed, UNTOUCHED, sizeof printed);
-    r.result = norbelath_sheet((const uint8_t *)text, text_len, printed, out_len, &r.first, &r.second);
+    r.result = noted("sheet", norbelath_sheet((const uint8_t *)text, text_len, printed, out_len, &r.first,
+                                              &r.second));
     text_answer("sheet", text, r, printed, sizeof printed, expected, NORBELATH_SHORT_SLICE, 0);
 }
 
@@ -2148,8 +2193,59 @@ static void limits(void)
     sheet(text, sizeof text, NORBELATH_SHEET_OUT - 1, NULL);
 }
 
+/* All calls that read a text refuse this one alike. */
+static void refused_by_all(const char *text, uint8_t number, uint64_t place)
+{
+    const size_t len = strlen(text);
+    form(text, NORBELATH_FORM_OUT, NULL, number, place);
+    cut(text, 0, NORBELATH_CUT_OUT, NULL, number, place);
+    pair(text, "1;", number, 0, place);
+    pair("1;", text, number, 1, place);
+    table_refused(text, len, NORBELATH_TABLE_TEXTS, NORBELATH_TABLE_ENDS, number, place);
+    for (size_t i = 0; i < LISTERS; i++) {
+        list_refused(listers[i], text, len, enough, number, place);
+    }
+    support_refused(text, len, support_enough, number, place);
+    row_refused(text, len, NORBELATH_ROW, number, place);
+    plot_refused(text, len, NORBELATH_PLOT_ROWS, NORBELATH_PLOT_COLUMNS, number, place);
+    add_refused(text, len, NORBELATH_INDEX_BYTES, number, place);
+}
+
+/* The largest label and the most brackets are those of the header. */
+static void refused_texts(void)
+{
+    static char text[NORBELATH_MAX_TEXT + 2];
+    char label[16];
+    clear_index();
+    sprintf(label, "(1,%d);", NORBELATH_MAX_LABEL + 1);
+    refused_by_all("(1,2", NORBELATH_WRONG_BYTE, 4);
+    refused_by_all(label, NORBELATH_BAD_LABEL, 3);
+    refused_by_all("(1,0);", NORBELATH_BAD_LABEL, 3);
+    refused_by_all("(1,01);", NORBELATH_LABEL_AGAIN, 3);
+    memset(text, '(', NORBELATH_MAX_DEPTH);
+    refused_by_all(text, NORBELATH_WRONG_BYTE, NORBELATH_MAX_DEPTH);
+    memset(text, '(', NORBELATH_MAX_DEPTH + 1);
+    refused_by_all(text, NORBELATH_TOO_DEEP, NORBELATH_MAX_DEPTH);
+    memset(text, 'x', NORBELATH_MAX_TEXT + 1);
+    refused_by_all(text, NORBELATH_LONG_TEXT, 0);
+
+    /* Both texts too long, and the other one alone though the first is broken. */
+    pair(text, text, NORBELATH_LONG_TEXT, 0, 0);
+    pair("(1,2", text, NORBELATH_LONG_TEXT, 1, 0);
+}
+
+/* The version in words is the one in numbers. */
+static void version(void)
+{
+    char words[32];
+    sprintf(words, "%d.%d.%d", NORBELATH_VERSION_MAJOR, NORBELATH_VERSION_MINOR, NORBELATH_VERSION_PATCH);
+    check(strcmp(words, NORBELATH_VERSION) == 0, "version", NORBELATH_VERSION, "other numbers were expected");
+}
+
 int main(void)
 {
+    version();
+    refused_texts();
     forms();
     deepest_form();
     unrooted_forms();
@@ -2202,6 +2298,7 @@ int main(void)
     unrooted_sheets();
     limits();
     unrooted_limits();
+    print_refusals();
     printf("C: %d checks, %d failed\n", checks, failures);
     return failures != 0;
 }

@@ -395,7 +395,7 @@ fn write_row_sheet(text: &[u8], out: &mut Vec<u8>) -> std::io::Result<()> {
         Err(refusal) => return write_refusal(refusal, out),
     };
     let pairs: Vec<(u16, u16)> = every_two(rows.len())
-        .filter(|&(i, j)| row_pair(&rows[i], &rows[j]).is_ok_and(|pair| pair.apart))
+        .filter(|&(i, j)| matches!(row_pair(&rows[i], &rows[j]), Ok(pair) if pair.apart))
         .map(|(i, j)| (i as u16, j as u16))
         .collect();
     writeln!(out, "trees {} pairs {}", rows.len(), pairs.len())?;

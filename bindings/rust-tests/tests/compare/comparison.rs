@@ -1,39 +1,67 @@
 //! Each call beside the independent implementation: its answer, and what it leaves in lent memory.
 
-use norbelath::{Copies, Graph, GraphSize, Interchanges, Islands, Pair, Plot, Refusal, Support};
-use norbelath::{SupportSize, Table, TableSize, CUT_OUT, FORM_OUT, GRAPH_COUNTS, GRAPH_FIRSTS};
-use norbelath::{GRAPH_PAIRS, ISLANDS, PLOT_COLUMNS, PLOT_ROWS, ROW, ROW_TEXT_OUT, SHEET_OUT};
-use norbelath::{SUPPORT_CLADES, SUPPORT_OUT, SUPPORT_TREES, TABLE_ENDS, TABLE_TEXTS};
+use std::collections::BTreeMap;
+
+use norbelath::{Copies, GraphSize, Islands, Plot, Support, SupportSize};
+use norbelath::{
+    CUT_OUT, FORM_OUT, GRAPH_COUNTS, GRAPH_FIRSTS, GRAPH_PAIRS, ISLANDS, PLOT_COLUMNS,
+};
+use norbelath::{PLOT_ROWS, ROW, ROW_TEXT_OUT, SHEET_OUT, SUPPORT_CLADES, SUPPORT_OUT};
+use norbelath::{SUPPORT_TREES, TABLE_ENDS, TABLE_TEXTS};
+use plain::{Graph, Pair, Refusal};
 
 use crate::generator::Random;
 
 pub const SHORT: Refusal = Refusal {
-    number: Refusal::SHORT_SLICE,
+    number: 7,
     text: 0,
     place: 0,
 };
 
-/// A call that lists pairs, and its lent slices: pairs, counts, firsts and islands, or the first two or three of them.
-type ListInto<const N: usize> = fn(&[u8], [&mut [u16]; N]) -> Result<GraphSize, Refusal>;
+/// What the library answers.
+pub type Answer<T> = Result<T, norbelath::Refusal>;
+
+/// A call that lists pairs, by its exported name.
+struct Listing<const N: usize> {
+    call: &'static str,
+    into: ListInto<N>,
+}
+
+/// The call with its lent slices: pairs, counts, firsts and islands, or the first two or three of them.
+type ListInto<const N: usize> = fn(&[u8], [&mut [u16]; N]) -> Answer<GraphSize>;
 
 /// The least lengths of those slices.
 const LISTS: [usize; 4] = [GRAPH_PAIRS, GRAPH_COUNTS, GRAPH_FIRSTS, ISLANDS];
 
-const GRAPH: ListInto<3> =
-    |text, [pairs, counts, firsts]| norbelath::graph_into(text, pairs, counts, firsts);
-const MERGED: ListInto<3> = |text, [pairs, counts, firsts]| {
-    norbelath::graph_choosing_into(text, Copies::Merge, pairs, counts, firsts)
+const GRAPH: Listing<3> = Listing {
+    call: "graph",
+    into: |text, [pairs, counts, firsts]| norbelath::graph_into(text, pairs, counts, firsts),
 };
-const KEPT_APART: ListInto<3> = |text, [pairs, counts, firsts]| {
-    norbelath::graph_choosing_into(text, Copies::KeepApart, pairs, counts, firsts)
+const MERGED: Listing<3> = Listing {
+    call: "graph_choosing",
+    into: |text, [pairs, counts, firsts]| {
+        norbelath::graph_choosing_into(text, Copies::Merge, pairs, counts, firsts)
+    },
 };
-const INTERCHANGES: ListInto<2> =
-    |text, [pairs, counts]| norbelath::interchanges_into(text, pairs, counts);
-const ISLAND_GRAPH: ListInto<4> = |text, [pairs, counts, firsts, islands]| {
-    norbelath::islands_into(text, pairs, counts, firsts, islands)
+const KEPT_APART: Listing<3> = Listing {
+    call: "graph_choosing",
+    into: |text, [pairs, counts, firsts]| {
+        norbelath::graph_choosing_into(text, Copies::KeepApart, pairs, counts, firsts)
+    },
+};
+const INTERCHANGES: Listing<2> = Listing {
+    call: "interchanges",
+    into: |text, [pairs, counts]| norbelath::interchanges_into(text, pairs, counts),
+};
+const ISLAND_GRAPH: Listing<4> = Listing {
+    call: "islands",
+    into: |text, [pairs, counts, firsts, islands]| {
+        norbelath::islands_into(text, pairs, counts, firsts, islands)
+    },
 };
 
-pub fn refusal(x: plain::Refusal) -> Refusal {
+/// The library's answers in the other implementation's terms, which they are compared in.
+pub fn refusal(x: norbelath::Refusal) -> Refusal {
     Refusal {
         number: x.number,
         text: x.text,
@@ -41,19 +69,43 @@ pub fn refusal(x: plain::Refusal) -> Refusal {
     }
 }
 
-fn paired(x: plain::Pair) -> Pair {
+pub fn paired(x: norbelath::Pair) -> Pair {
     Pair {
         apart: x.apart,
         forests: x.forests,
     }
 }
 
-fn graph(x: plain::Graph) -> Graph {
+fn graph(x: norbelath::Graph) -> Graph {
     Graph {
         pairs: x.pairs,
         counts: x.counts,
         firsts: x.firsts,
     }
+}
+
+fn islands(x: Islands) -> plain::Islands {
+    plain::Islands {
+        graph: Graph {
+            pairs: x.pairs,
+            counts: x.counts,
+            firsts: x.firsts,
+        },
+        numbers: x.islands,
+    }
+}
+
+fn support(x: Support) -> plain::Support {
+    plain::Support {
+        clades: x.clades,
+        trees: x.trees,
+        majority: x.majority.into_bytes(),
+    }
+}
+
+/// The trees and pairs that a call says it wrote.
+fn listed(x: GraphSize) -> [usize; 2] {
+    [x.trees, x.pairs]
 }
 
 /// The pairs as a slice holds them.
@@ -160,7 +212,7 @@ impl LentSupport {
         LentSupport { clades, trees, out }
     }
 
-    fn call(&mut self, text: &[u8]) -> Result<SupportSize, Refusal> {
+    fn call(&mut self, text: &[u8]) -> Answer<SupportSize> {
         norbelath::support_into(
             text,
             &mut self.clades.slice,
@@ -176,10 +228,12 @@ impl LentSupport {
     }
 }
 
-/// The comparisons of a test, and how many calls were accepted (at 0) and refused with each number.
+/// The comparisons of a test: how many calls were accepted (at 0) and refused with each number, and of each call by its
+/// exported name how many were accepted and refused.
 pub struct Comparison {
     pub random: Random,
     answers: [usize; 14],
+    calls: BTreeMap<&'static str, [usize; 2]>,
 }
 
 impl Comparison {
@@ -187,20 +241,26 @@ impl Comparison {
         Comparison {
             random: Random::new(seed),
             answers: [0; 14],
+            calls: BTreeMap::new(),
         }
     }
 
-    pub fn count<T>(&mut self, answer: &Result<T, Refusal>) {
-        match answer {
-            Ok(_) => self.answers[0] += 1,
-            Err(x) => self.answers[x.number as usize] += 1,
-        }
+    /// Counts an answer that was compared.
+    pub fn count<T>(&mut self, call: &'static str, answer: &Result<T, Refusal>) {
+        let number = answer.as_ref().err().map_or(0, |x| x.number);
+        self.answers[usize::from(number)] += 1;
+        self.calls.entry(call).or_default()[usize::from(number > 0)] += 1;
     }
 
     /// Ends a test: it met each of these refusals so many times or more; 0 stands for accepted.
     pub fn met(&self, test: &str, least: &[(usize, usize)]) {
         let (accepted, refused) = (self.answers[0], &self.answers[1..]);
-        println!("{test}: {accepted} accepted, refused 1 to 13: {refused:?}");
+        let compared = self.calls.iter().map(|(call, [accepted, refused])| {
+            format!("compared {call} accepted {accepted} refused {refused}\n")
+        });
+        let compared: String = compared.collect();
+        // In one piece, so that no other test's words come between.
+        print!("{test}: {accepted} accepted, refused 1 to 13: {refused:?}\n{compared}");
         for &(number, times) in least {
             let met = self.answers[number];
             assert!(met >= times, "{number} was met {met} times only");
@@ -208,22 +268,24 @@ impl Comparison {
     }
 
     pub fn form(&mut self, text: &[u8]) {
-        let expected = plain::form(text).map_err(refusal);
-        assert_eq!(norbelath::form(text), expected, "{}", shown(text));
-        self.text_call(FORM_OUT, &shown(text), expected, |out| {
+        let expected = plain::form(text);
+        let returned = norbelath::form(text).map(String::into_bytes);
+        assert_eq!(returned.map_err(refusal), expected, "{}", shown(text));
+        self.text_call("form", FORM_OUT, &shown(text), expected, |out| {
             norbelath::form_into(text, out)
         });
     }
 
     pub fn cut(&mut self, text: &[u8], cut: u64) {
-        let expected = plain::cut(text, cut).map_err(refusal);
+        let expected = plain::cut(text, cut);
+        let returned = norbelath::cut(text, cut).map(String::into_bytes);
         assert_eq!(
-            norbelath::cut(text, cut),
+            returned.map_err(refusal),
             expected,
             "cut {cut} of {}",
             shown(text)
         );
-        self.text_call(CUT_OUT, &shown(text), expected, |out| {
+        self.text_call("cut", CUT_OUT, &shown(text), expected, |out| {
             norbelath::cut_into(text, cut, out)
         });
     }
@@ -231,8 +293,9 @@ impl Comparison {
     /// A text that is refused has its sheet too.
     pub fn sheet(&mut self, text: &[u8]) {
         let expected = plain::sheet(text);
-        assert_eq!(norbelath::sheet(text), expected, "{}", shown(text));
-        self.text_call(SHEET_OUT, &shown(text), Ok(expected), |out| {
+        let returned = norbelath::sheet(text);
+        assert_eq!(returned.as_bytes(), expected, "{}", shown(text));
+        self.text_call("sheet", SHEET_OUT, &shown(text), Ok(expected), |out| {
             norbelath::sheet_into(text, out)
         });
     }
@@ -240,45 +303,47 @@ impl Comparison {
     /// A call that writes a text, lent enough and too little; `shown` is what it gets, for messages.
     fn text_call(
         &mut self,
+        name: &'static str,
         least: usize,
         shown: &str,
         expected: Result<Vec<u8>, Refusal>,
-        call: impl Fn(&mut [u8]) -> Result<usize, Refusal>,
+        call: impl Fn(&mut [u8]) -> Answer<usize>,
     ) {
-        self.written(least, |x| x as u8, shown, expected, call);
+        self.written(name, least, |x| x as u8, shown, expected, call);
     }
 
     /// The same of any elements, which `of` makes of noise.
     pub fn written<T: Copy + PartialEq>(
         &mut self,
+        name: &'static str,
         least: usize,
         of: fn(u64) -> T,
         shown: &str,
         expected: Result<Vec<T>, Refusal>,
-        call: impl Fn(&mut [T]) -> Result<usize, Refusal>,
+        call: impl Fn(&mut [T]) -> Answer<usize>,
     ) {
         let len = enough(&mut self.random, least);
         let mut out = Lent::new(&mut self.random, len, of);
-        let answer = call(&mut out.slice);
+        let answer = call(&mut out.slice).map_err(refusal);
         let written = expected.as_deref().unwrap_or(&[]);
         assert!(out.holds(written), "{shown}");
         assert_eq!(answer, expected.map(|text| text.len()), "{shown}");
-        self.count(&answer);
+        self.count(name, &answer);
 
         let len = too_short(&mut self.random, least);
         let mut out = Lent::new(&mut self.random, len, of);
         let answer = call(&mut out.slice);
         assert!(out.holds(&[]), "{shown}");
-        assert_eq!(answer, Err(SHORT), "{shown}");
-        self.count(&answer);
+        self.short(name, answer, shown);
     }
 
     /// Gives the answer, for tests that go on with it.
     pub fn row(&mut self, text: &[u8]) -> Option<Vec<u64>> {
-        let expected = plain::row(text).map_err(refusal);
-        let returned = norbelath::row(text);
+        let expected = plain::row(text);
+        let returned = norbelath::row(text).map_err(refusal);
         assert_eq!(returned, expected, "{}", shown(text));
         self.written(
+            "row",
             ROW,
             |x| x,
             &shown(text),
@@ -291,8 +356,8 @@ impl Comparison {
     /// Floats are compared as bits, so that noise which is no number is seen too. Gives the answer, for tests that go on
     /// with it.
     pub fn plot(&mut self, text: &[u8]) -> Option<Plot> {
-        let expected = plain::plot(text).map_err(refusal);
-        let returned = norbelath::plot(text);
+        let expected = plain::plot(text);
+        let returned = norbelath::plot(text).map_err(refusal);
         let (rows, columns) = expected.clone().unwrap_or_default();
         if let Ok(plot) = &returned {
             assert_eq!(bits(&plot.rows), bits(&rows), "{}", shown(text));
@@ -312,6 +377,7 @@ impl Comparison {
             let len = length(&mut self.random, short[1], PLOT_COLUMNS);
             let mut lent_columns = Lent::new(&mut self.random, len, |x| x as u16);
             let answer = norbelath::plot_into(text, &mut lent_rows, &mut lent_columns.slice);
+            let answer = answer.map_err(refusal);
             let lent_rows = before.changed_to(bits(&lent_rows));
             if short == [false, false] {
                 assert_eq!(answer, nodes, "{}", shown(text));
@@ -322,17 +388,19 @@ impl Comparison {
                 assert!(lent_rows.holds(&[]), "{}", shown(text));
                 assert!(lent_columns.holds(&[]), "{}", shown(text));
             }
-            self.count(&answer);
+            self.count("plot", &answer);
         }
         returned.ok()
     }
 
     /// Gives the answer, for tests that go on with it.
-    pub fn row_text(&mut self, row: &[u64]) -> Option<Vec<u8>> {
-        let expected = plain::row_text(row).map_err(refusal);
+    pub fn row_text(&mut self, row: &[u64]) -> Option<String> {
+        let expected = plain::row_text(row);
         let returned = norbelath::row_text(row);
-        assert_eq!(returned, expected, "{row:?}");
-        self.text_call(ROW_TEXT_OUT, &format!("{row:?}"), expected, |out| {
+        let text = returned.clone().map(String::into_bytes);
+        let shown = format!("{row:?}");
+        assert_eq!(text.map_err(refusal), expected, "{shown}");
+        self.text_call("row_text", ROW_TEXT_OUT, &shown, expected, |out| {
             norbelath::row_text_into(row, out)
         });
         returned.ok()
@@ -340,46 +408,49 @@ impl Comparison {
 
     /// Gives the answer, for tests that want to see both.
     pub fn row_pair(&mut self, row: &[u64], other: &[u64]) -> Option<Pair> {
-        let expected = plain::row_pair(row, other).map(paired).map_err(refusal);
-        let answer = norbelath::row_pair(row, other);
+        let expected = plain::row_pair(row, other);
+        let answer = norbelath::row_pair(row, other).map(paired).map_err(refusal);
         assert_eq!(answer, expected, "{row:?} and {other:?}");
-        self.count(&answer);
+        self.count("row_pair", &answer);
         answer.ok()
     }
 
     /// Gives the answer, for tests that want to see both.
     pub fn pair(&mut self, text: &[u8], other: &[u8]) -> Option<Pair> {
-        let expected = plain::pair(text, other).map(paired).map_err(refusal);
-        let answer = norbelath::pair(text, other);
+        let expected = plain::pair(text, other);
+        let answer = norbelath::pair(text, other).map(paired).map_err(refusal);
         assert_eq!(answer, expected, "{} and {}", shown(text), shown(other));
-        self.count(&answer);
+        self.count("pair", &answer);
         answer.ok()
     }
 
     pub fn table(&mut self, text: &[u8]) {
-        let expected = plain::table(text)
-            .map(|(texts, ends)| Table { texts, ends })
-            .map_err(refusal);
-        assert_eq!(norbelath::table(text), expected, "{}", shown(text));
+        let expected = plain::table(text);
+        let returned = norbelath::table(text).map_err(refusal);
+        if let (Ok(table), Ok((texts, ends))) = (&returned, &expected) {
+            assert_eq!(table.trees().len(), ends.len(), "{}", shown(text));
+            let ended = table.trees().scan(0, |end, tree| {
+                *end += tree.len() as u32;
+                Some((*end, tree.as_bytes()))
+            });
+            let split = texts.split_inclusive(|&byte| byte == b';');
+            assert!(ended.eq(ends.iter().copied().zip(split)), "{}", shown(text));
+        }
+        let returned = returned.map(|table| (table.texts.into_bytes(), table.ends));
+        assert_eq!(returned, expected, "{}", shown(text));
 
         let texts_len = enough(&mut self.random, TABLE_TEXTS);
         let ends_len = enough(&mut self.random, TABLE_ENDS);
         let mut texts = Lent::new(&mut self.random, texts_len, |x| x as u8);
         let mut ends = Lent::new(&mut self.random, ends_len, |x| x as u32);
         let answer = norbelath::table_into(text, &mut texts.slice, &mut ends.slice);
-        self.count(&answer);
-        match &expected {
-            Ok(table) => {
-                assert!(texts.holds(&table.texts), "{}", shown(text));
-                assert!(ends.holds(&table.ends), "{}", shown(text));
-            }
-            Err(_) => assert!(texts.holds(&[]) && ends.holds(&[]), "{}", shown(text)),
-        }
-        let size = expected.map(|table| TableSize {
-            bytes: table.texts.len(),
-            trees: table.ends.len(),
-        });
-        assert_eq!(answer, size, "{}", shown(text));
+        let answer = answer.map(|size| [size.bytes, size.trees]).map_err(refusal);
+        self.count("table", &answer);
+        let size = expected.as_ref().map(|x| [x.0.len(), x.1.len()]);
+        assert_eq!(answer, size.map_err(|&x| x), "{}", shown(text));
+        let written = expected.unwrap_or_default();
+        assert!(texts.holds(&written.0), "{}", shown(text));
+        assert!(ends.holds(&written.1), "{}", shown(text));
     }
 
     /// The graph call under each choice, the interchange call and the islands call.
@@ -392,12 +463,12 @@ impl Comparison {
     /// The graph call, and the graph choosing call under both choices. Gives the merged graph and the one with copies
     /// kept apart, for tests that want to see both.
     pub fn merged_and_kept_apart(&mut self, text: &[u8]) -> Option<(Graph, Graph)> {
-        let merged = plain::graph(text).map(graph).map_err(refusal);
+        let merged = plain::graph(text);
         self.graph_call(text, &merged, norbelath::graph(text), GRAPH);
         let returned = norbelath::graph_choosing(text, Copies::Merge);
         self.graph_call(text, &merged, returned, MERGED);
 
-        let apart = plain::graph_with_copies(text).map(graph).map_err(refusal);
+        let apart = plain::graph_with_copies(text);
         let returned = norbelath::graph_choosing(text, Copies::KeepApart);
         self.graph_call(text, &apart, returned, KEPT_APART);
         merged.ok().zip(apart.ok())
@@ -408,36 +479,37 @@ impl Comparison {
         &mut self,
         text: &[u8],
         expected: &Result<Graph, Refusal>,
-        returned: Result<Graph, Refusal>,
-        into: ListInto<3>,
+        returned: Answer<norbelath::Graph>,
+        listing: Listing<3>,
     ) {
+        let returned = returned.map(graph).map_err(refusal);
         assert_eq!(&returned, expected, "{}", shown(text));
         let lists = returned.map(|x| [flat(&x.pairs), x.counts, x.firsts]);
-        self.written_lists(text, lists, into);
+        self.written_lists(text, lists, listing);
     }
 
     pub fn interchanges(&mut self, text: &[u8]) {
-        let expected = plain::interchanges(text)
-            .map(|(pairs, counts)| Interchanges { pairs, counts })
-            .map_err(refusal);
-        assert_eq!(norbelath::interchanges(text), expected, "{}", shown(text));
-        let lists = expected.map(|x| [flat(&x.pairs), x.counts]);
+        let expected = plain::interchanges(text);
+        let returned = norbelath::interchanges(text).map(|x| (x.pairs, x.counts));
+        assert_eq!(returned.map_err(refusal), expected, "{}", shown(text));
+        let lists = expected.map(|(pairs, counts)| [flat(&pairs), counts]);
         self.written_lists(text, lists, INTERCHANGES);
     }
 
     /// Gives the answer, for tests that want to see islands.
     pub fn islands(&mut self, text: &[u8]) -> Option<Islands> {
-        let expected = plain::islands(text)
-            .map(|x| Islands {
-                pairs: x.graph.pairs,
-                counts: x.graph.counts,
-                firsts: x.graph.firsts,
-                islands: x.numbers,
-            })
-            .map_err(refusal);
+        let expected = plain::islands(text);
         let returned = norbelath::islands(text);
-        assert_eq!(returned, expected, "{}", shown(text));
-        let lists = expected.map(|x| [flat(&x.pairs), x.counts, x.firsts, x.islands]);
+        let answer = returned.clone().map(islands).map_err(refusal);
+        assert_eq!(answer, expected, "{}", shown(text));
+        let lists = expected.map(|x| {
+            let Graph {
+                pairs,
+                counts,
+                firsts,
+            } = x.graph;
+            [flat(&pairs), counts, firsts, x.numbers]
+        });
         self.written_lists(text, lists, ISLAND_GRAPH);
         returned.ok()
     }
@@ -447,15 +519,15 @@ impl Comparison {
         &mut self,
         text: &[u8],
         expected: Result<[Vec<u16>; N], Refusal>,
-        into: ListInto<N>,
+        listing: Listing<N>,
     ) {
         let mut lent = self.lent_lists([false; N]);
-        let answer = into(text, slices(&mut lent));
-        self.count(&answer);
-        let size = expected.as_ref().map(|lists| GraphSize {
-            trees: lists[1].len(),
-            pairs: lists[0].len() / 2,
-        });
+        let answer = (listing.into)(text, slices(&mut lent));
+        let answer = answer.map(listed).map_err(refusal);
+        self.count(listing.call, &answer);
+        let size = expected
+            .as_ref()
+            .map(|lists| [lists[1].len(), lists[0].len() / 2]);
         assert_eq!(answer, size.map_err(|&x| x), "{}", shown(text));
         let lists = expected.unwrap_or([(); N].map(|_| vec![]));
         let written = lent.iter().zip(&lists).all(|(x, list)| x.holds(list));
@@ -472,24 +544,20 @@ impl Comparison {
 
     /// Gives the answer, for tests that want to see clades.
     pub fn support(&mut self, text: &[u8]) -> Option<Support> {
-        let expected = plain::support(text)
-            .map(|x| Support {
-                clades: x.clades,
-                trees: x.trees,
-                majority: x.majority,
-            })
-            .map_err(refusal);
+        let expected = plain::support(text);
         let returned = norbelath::support(text);
-        assert_eq!(returned, expected, "{}", shown(text));
+        let answer = returned.clone().map(support).map_err(refusal);
+        assert_eq!(answer, expected, "{}", shown(text));
 
         let mut lent = LentSupport::new(&mut self.random, [false; 3]);
         let answer = lent.call(text);
-        self.count(&answer);
-        let size = expected.as_ref().map(|x| SupportSize {
-            clades: x.clades.len(),
-            bytes: x.majority.len(),
-            trees: x.trees,
-        });
+        let answer = answer
+            .map(|size| [size.clades, size.bytes, size.trees])
+            .map_err(refusal);
+        self.count("support", &answer);
+        let size = expected
+            .as_ref()
+            .map(|x| [x.clades.len(), x.majority.len(), x.trees]);
         assert_eq!(answer, size.map_err(|&x| x), "{}", shown(text));
         let written = match &expected {
             Ok(x) => lent.holds(&x.clades, &x.majority),
@@ -509,25 +577,23 @@ impl Comparison {
             let mut ends = Lent::new(&mut self.random, len, |x| x as u32);
             let answer = norbelath::table_into(text, &mut texts.slice, &mut ends.slice);
             assert!(texts.holds(&[]) && ends.holds(&[]), "{}", shown(text));
-            assert_eq!(answer, Err(SHORT), "{}", shown(text));
-            self.count(&answer);
+            self.short("table", answer, &shown(text));
         }
-        for into in [GRAPH, MERGED, KEPT_APART] {
-            self.short_lists(text, into);
+        for listing in [GRAPH, MERGED, KEPT_APART] {
+            self.short_lists(text, listing);
         }
         self.short_lists(text, INTERCHANGES);
         self.short_lists(text, ISLAND_GRAPH);
         self.short_support(text);
     }
 
-    fn short_lists<const N: usize>(&mut self, text: &[u8], into: ListInto<N>) {
+    fn short_lists<const N: usize>(&mut self, text: &[u8], listing: Listing<N>) {
         for chosen in 0..=N {
             let short = std::array::from_fn(|i| i == chosen || chosen == N);
             let mut lent = self.lent_lists(short);
-            let answer = into(text, slices(&mut lent));
+            let answer = (listing.into)(text, slices(&mut lent));
             assert!(lent.iter().all(|x| x.holds(&[])), "{}", shown(text));
-            assert_eq!(answer, Err(SHORT), "{}", shown(text));
-            self.count(&answer);
+            self.short(listing.call, answer, &shown(text));
         }
     }
 
@@ -537,8 +603,14 @@ impl Comparison {
             let mut lent = LentSupport::new(&mut self.random, short);
             let answer = lent.call(text);
             assert!(lent.holds(&[], &[]), "{}", shown(text));
-            assert_eq!(answer, Err(SHORT), "{}", shown(text));
-            self.count(&answer);
+            self.short("support", answer, &shown(text));
         }
+    }
+
+    /// Ends a call that was lent too little.
+    pub fn short<T>(&mut self, call: &'static str, answer: Answer<T>, shown: &str) {
+        let answer = answer.map(drop).map_err(refusal);
+        assert_eq!(answer, Err(SHORT), "{shown}");
+        self.count(call, &answer);
     }
 }

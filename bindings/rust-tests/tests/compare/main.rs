@@ -4,10 +4,10 @@ mod comparison;
 mod generator;
 mod index;
 
-use comparison::Comparison;
+use comparison::{paired, refusal, Comparison};
 use generator::{chains, damage, damage_row, labels, most_clades, Kind, Random, Tree};
-use norbelath::SUPPORT_CLADES;
-use norbelath::{Drawing, Graph, Islands, Pair, Refusal, Support, MAX_TEXT, MAX_TREES};
+use norbelath::{Drawing, Islands, Reason, Support, MAX_TEXT, MAX_TREES, SUPPORT_CLADES};
+use plain::{Graph, Pair, Refusal};
 
 /// Every text of up to so many of these bytes.
 fn every_text(bytes: &[u8], most: usize) -> Vec<Vec<u8>> {
@@ -135,8 +135,9 @@ struct Seen {
 impl Seen {
     /// Counts the answer to two rooted trees of so many leaves, with that to the same exchanged, if they are accepted.
     fn count(&mut self, leaves: usize, answers: [Option<Pair>; 2]) {
-        let [Some(answer), Some(exchanged)] = answers else {
-            return;
+        let (answer, exchanged) = match answers {
+            [Some(answer), Some(exchanged)] => (answer, exchanged),
+            _ => return,
         };
         assert_eq!(answer.apart, exchanged.apart);
         assert!(answer.forests <= 2 * leaves - 2);
@@ -189,6 +190,15 @@ fn pairs_of_trees() {
     seen.met(2_000);
 }
 
+/// The answers of the pair call and of the row pair call, to be compared.
+fn pair_call(text: &str, other: &str) -> Result<Pair, Refusal> {
+    norbelath::pair(text, other).map(paired).map_err(refusal)
+}
+
+fn row_pair_call(row: &[u64], other: &[u64]) -> Result<Pair, Refusal> {
+    norbelath::row_pair(row, other).map(paired).map_err(refusal)
+}
+
 /// The numbers of forests of trees worked out by hand, in both orders, as texts and as rows.
 #[test]
 fn forests_compared() {
@@ -209,20 +219,13 @@ fn forests_compared() {
         ("7;", " 7 ;", false, [0, 0]),
     ];
     for (one, other, apart, forests) in samples {
-        let rows = [one, other].map(|text| norbelath::row(text.as_bytes()).unwrap());
+        let rows = [one, other].map(|text| norbelath::row(text).unwrap());
         for (i, forests) in forests.into_iter().enumerate() {
             let texts = [[one, other], [other, one]][i];
             let expected = Ok(Pair { apart, forests });
-            assert_eq!(
-                norbelath::pair(texts[0].as_bytes(), texts[1].as_bytes()),
-                expected,
-                "{texts:?}"
-            );
-            assert_eq!(
-                norbelath::row_pair(&rows[i], &rows[1 - i]),
-                expected,
-                "{texts:?}"
-            );
+            assert_eq!(pair_call(texts[0], texts[1]), expected, "{texts:?}");
+            let answer = row_pair_call(&rows[i], &rows[1 - i]);
+            assert_eq!(answer, expected, "{texts:?}");
         }
     }
 }
@@ -231,7 +234,7 @@ fn forests_compared() {
 #[test]
 fn no_forests_compared() {
     for (other, apart) in [("[&U](1,(2,3),4);", true), ("[&U]((1,2),3,4);", false)] {
-        let answer = norbelath::pair(b"[&U](1,2,(3,4));", other.as_bytes());
+        let answer = pair_call("[&U](1,2,(3,4));", other);
         assert_eq!(answer, Ok(Pair { apart, forests: 0 }), "{other}");
     }
     let refused = |number, text, place| {
@@ -241,18 +244,12 @@ fn no_forests_compared() {
             place,
         })
     };
-    let one = b"(((1,2),3),4);";
-    assert_eq!(norbelath::pair(one, b"(1,2);x"), refused(1, 1, 6));
-    assert_eq!(norbelath::pair(one, b"(1,(2,3));"), refused(5, 1, 9));
-    assert_eq!(
-        norbelath::pair(one, b"[&U](1,2,(3,4));"),
-        refused(10, 1, 15)
-    );
-    assert_eq!(
-        norbelath::row_pair(&[7, 3, 7], &[7, 3, 3]),
-        refused(11, 1, 0)
-    );
-    assert_eq!(norbelath::row_pair(&[7, 3, 7], &[3, 3]), refused(5, 1, 0));
+    let one = "(((1,2),3),4);";
+    assert_eq!(pair_call(one, "(1,2);x"), refused(1, 1, 6));
+    assert_eq!(pair_call(one, "(1,(2,3));"), refused(5, 1, 9));
+    assert_eq!(pair_call(one, "[&U](1,2,(3,4));"), refused(10, 1, 15));
+    assert_eq!(row_pair_call(&[7, 3, 7], &[7, 3, 3]), refused(11, 1, 0));
+    assert_eq!(row_pair_call(&[7, 3, 7], &[3, 3]), refused(5, 1, 0));
 }
 
 /// A comb of 64 leaves, and the same with the last leaf above 61 of the others: only the last of the 126 cuts leaves a
@@ -269,15 +266,14 @@ fn most_forests_compared() {
     let labels: Vec<u8> = (1..=64).collect();
     let moved = [&labels[..61], &[64, 62, 63]].concat();
     let texts = [comb(&labels), comb(&moved)];
-    let rows = texts.clone().map(|x| norbelath::row(x.as_bytes()).unwrap());
+    let rows = texts.clone().map(|text| norbelath::row(text).unwrap());
     for (i, forests) in [124, 122].into_iter().enumerate() {
         let expected = Ok(Pair {
             apart: true,
             forests,
         });
-        let [one, other] = [&texts[i], &texts[1 - i]].map(|text| text.as_bytes());
-        assert_eq!(norbelath::pair(one, other), expected);
-        assert_eq!(norbelath::row_pair(&rows[i], &rows[1 - i]), expected);
+        assert_eq!(pair_call(&texts[i], &texts[1 - i]), expected);
+        assert_eq!(row_pair_call(&rows[i], &rows[1 - i]), expected);
     }
 }
 
@@ -674,7 +670,7 @@ fn plots_of_trees() {
             assert_eq!(plot.rows.len(), 2 * leaves - 1);
             let canonical = norbelath::form(&text).expect("a tree");
             let mut expected = vec![];
-            drawn(&mut &canonical[..], &mut 0, &mut expected);
+            drawn(&mut canonical.as_bytes(), &mut 0, &mut expected);
             assert_eq!(plot.drawings().collect::<Vec<_>>(), expected);
         }
     }
@@ -720,7 +716,8 @@ fn pairs_of_rows() {
         let texts = [tree, other].map(|x| x.text(&mut compare.random, 0));
         let [mut row, mut other] = [0, 1].map(|i| compare.row(&texts[i]).expect("a rooted tree"));
         let answer = compare.row_pair(&row, &other);
-        assert_eq!(answer, norbelath::pair(&texts[0], &texts[1]).ok());
+        let of_texts = norbelath::pair(&texts[0], &texts[1]).map(paired);
+        assert_eq!(answer, of_texts.ok());
         seen.count(leaves, [answer, compare.row_pair(&other, &row)]);
         if turn % 3 > 0 {
             damage_row(&mut compare.random, &mut row);
@@ -874,4 +871,70 @@ fn short_slices() {
         compare.short_tables(&text);
     }
     compare.met("short slices", &[(7, 54_000)]);
+}
+
+/// The same bytes as `&str`, `String`, `&[u8]` and `Vec<u8>`, and bytes that are no UTF-8.
+#[test]
+fn texts_of_every_type() {
+    let text = "(3,(2,1));";
+    let (owned, bytes) = (text.to_string(), text.as_bytes().to_vec());
+    let expected = Ok("((1,2),3);".to_string());
+    assert_eq!(norbelath::form(text), expected);
+    assert_eq!(norbelath::form(text.as_bytes()), expected);
+    assert_eq!(norbelath::form(&owned), expected);
+    assert_eq!(norbelath::form(&bytes), expected);
+    assert_eq!(norbelath::form(owned), expected);
+    assert_eq!(norbelath::form(bytes), expected);
+    let refusal = norbelath::form(b"(1,\xff);").unwrap_err();
+    assert_eq!(
+        (refusal.reason(), refusal.at()),
+        (Reason::WrongByte, Some(3))
+    );
+    assert_eq!(norbelath::sheet(b"\xff"), "refused 1 at 0\n");
+}
+
+/// The texts inside answers, of trees and of none.
+#[test]
+fn texts_in_answers() {
+    let table = norbelath::table("(2,1); (12,10);").map_err(|x| x.at());
+    assert_eq!(table, Err(Some(14)));
+    let table = norbelath::table("[&U](12,2); [&U](02,012);").unwrap();
+    assert_eq!(table.texts, "[&U](2,12);[&U](2,12);");
+    let trees: Vec<&str> = table.trees().collect();
+    assert_eq!(trees, ["[&U](2,12);"; 2]);
+    assert_eq!(norbelath::table(" ").unwrap().trees().len(), 0);
+    let support = norbelath::support("((1,2),3); ((1,3),2);").unwrap();
+    assert_eq!(support.majority, "(1,2,3);");
+    assert_eq!(norbelath::support("").unwrap().majority, "");
+}
+
+/// Refusals of two texts and of two rows, in words.
+#[test]
+fn words_of_the_other() {
+    let long = [b' '; MAX_TEXT + 1];
+    let words = [
+        (
+            norbelath::pair("1;", "(1,2);x"),
+            "refused 1 at 6 of the other text: a byte that cannot stand there, or the text ends too soon",
+        ),
+        (
+            norbelath::pair("1;", long),
+            "refused 8 in the other text: a text above 65,535 bytes",
+        ),
+        (
+            norbelath::pair(long, "1;"),
+            "refused 8: a text above 65,535 bytes",
+        ),
+        (
+            norbelath::row_pair(&[1], &[]),
+            "refused 11 in the other row: numbers that are the row of no tree",
+        ),
+        (
+            norbelath::row_pair(&[1], &[2]),
+            "refused 5 in the other row: labels other than those of the first tree",
+        ),
+    ];
+    for (answer, expected) in words {
+        assert_eq!(answer.unwrap_err().to_string(), expected);
+    }
 }

@@ -3,9 +3,10 @@
 use std::collections::BTreeMap;
 use std::fmt::Debug;
 
-use norbelath::{Copies, Index, Refusal, INDEX_BYTES, INDEX_LIST, MAX_TEXT, MAX_TREES};
+use norbelath::{Copies, Index, Reason, INDEX_BYTES, INDEX_LIST, MAX_TEXT, MAX_TREES};
+use plain::Refusal;
 
-use crate::comparison::{refusal, shown, too_short, Comparison, Lent, SHORT};
+use crate::comparison::{refusal, shown, too_short, Answer, Comparison, Lent, SHORT};
 use crate::generator::{chains, damage, damage_index, labels, take_out, Kind, Random, Tree};
 use crate::{every_text, random_tree};
 
@@ -16,35 +17,37 @@ impl Comparison {
     /// A change of the index in this memory, with some lent behind it; of one that owns it; and with too little lent.
     fn index_change<T: Copy + Debug + PartialEq>(
         &mut self,
+        call: &'static str,
         memory: &[u8],
         shown: &str,
         expected: &Changed<T>,
-        lent_call: impl Fn(&mut [u8]) -> Result<T, Refusal>,
-        owner_call: impl Fn(&mut Index) -> Result<T, Refusal>,
+        lent_call: impl Fn(&mut [u8]) -> Answer<T>,
+        owner_call: impl Fn(&mut Index) -> Answer<T>,
     ) {
         let answered = expected.as_ref().map(|x| x.0).map_err(|&x| x);
         let after = expected.as_ref().map_or(memory, |x| &x.1);
         let extra = self.random.pick(&[0, 0, 1, 13]);
         let mut lent = Lent::behind(&mut self.random, memory, extra, |x| x as u8);
-        let answer = lent_call(&mut lent.slice);
+        let answer = lent_call(&mut lent.slice).map_err(refusal);
         assert_eq!(answer, answered, "{shown}");
         assert!(lent.holds(after), "{shown}");
-        self.count(&answer);
+        self.count(call, &answer);
 
         let mut index = Index::from_bytes(memory);
-        assert_eq!(owner_call(&mut index), answered, "{shown}");
+        let owned = owner_call(&mut index).map_err(refusal);
+        assert_eq!(owned, answered, "{shown}");
         assert!(index.as_bytes() == after, "{shown}");
 
         let len = too_short(&mut self.random, INDEX_BYTES);
         let mut short = memory[..len].to_vec();
         let answer = lent_call(&mut short);
-        assert_eq!(answer, Err(SHORT), "{shown}");
         assert!(short == memory[..len], "{shown}");
-        self.count(&answer);
+        self.short(call, answer, shown);
     }
 
     fn index_add(&mut self, memory: &[u8], text: &[u8], expected: &Changed<usize>) {
         self.index_change(
+            "index_add",
             memory,
             &shown(text),
             expected,
@@ -55,6 +58,7 @@ impl Comparison {
 
     fn index_remove(&mut self, memory: &[u8], number: usize, expected: &Changed<()>) {
         self.index_change(
+            "index_remove",
             memory,
             &format!("{number} removed"),
             expected,
@@ -71,10 +75,12 @@ impl Comparison {
         expected: &Result<Vec<u16>, Refusal>,
     ) {
         let index = Index::from_bytes(memory);
-        assert_eq!(&index.neighbours(number), expected, "{number}");
+        let returned = index.neighbours(number).map_err(refusal);
+        assert_eq!(&returned, expected, "{number}");
         let extra = self.random.pick(&[0, 0, 1, 13]);
         let lent = Lent::behind(&mut self.random, memory, extra, |x| x as u8);
         self.written(
+            "index_neighbours",
             INDEX_LIST,
             |x| x as u16,
             &format!("the neighbours of {number}"),
@@ -86,18 +92,17 @@ impl Comparison {
         let len = too_short(&mut self.random, INDEX_BYTES);
         let mut list = Lent::new(&mut self.random, INDEX_LIST, |x| x as u16);
         let answer = norbelath::index_neighbours_into(&memory[..len], number, &mut list.slice);
-        assert_eq!(answer, Err(SHORT), "{number}");
         assert!(list.holds(&[]), "{number}");
-        self.count(&answer);
+        self.short("index_neighbours", answer, &number.to_string());
     }
 
     /// Each call on any memory.
     fn index_calls(&mut self, memory: &[u8], text: &[u8], number: usize) {
-        let expected = plain::index_add(memory, text).map_err(refusal);
+        let expected = plain::index_add(memory, text);
         self.index_add(memory, text, &expected);
-        let expected = plain::index_neighbours(memory, number).map_err(refusal);
+        let expected = plain::index_neighbours(memory, number);
         self.index_neighbours(memory, number, &expected);
-        let expected = plain::index_remove(memory, number).map_err(refusal);
+        let expected = plain::index_remove(memory, number);
         self.index_remove(memory, number, &expected.map(|after| ((), after)));
     }
 }
@@ -120,7 +125,7 @@ impl Run {
 
     fn add(&mut self, compare: &mut Comparison, text: &[u8]) {
         let memory = self.plain.memory();
-        let added = self.plain.add(text).map_err(refusal);
+        let added = self.plain.add(text);
         compare.index_add(
             &memory,
             text,
@@ -135,7 +140,7 @@ impl Run {
 
     fn remove(&mut self, compare: &mut Comparison, number: usize) {
         let mut memory = self.plain.memory();
-        let removed = self.plain.remove(number).map_err(refusal);
+        let removed = self.plain.remove(number);
         let after = self.plain.memory();
         compare.index_remove(&memory, number, &removed.map(|()| ((), after.clone())));
         if removed.is_ok() {
@@ -148,7 +153,7 @@ impl Run {
     }
 
     fn ask(&self, compare: &mut Comparison, number: usize) {
-        let expected = self.plain.neighbours(number).map_err(refusal);
+        let expected = self.plain.neighbours(number);
         compare.index_neighbours(&self.plain.memory(), number, &expected);
     }
 
@@ -318,7 +323,7 @@ fn additions_of_every_short_text() {
     let memory = held.plain.memory();
     let marks = every_text(b"[&UR]1;", 4);
     for text in every_text(b"(),;12 0", 4).into_iter().chain(marks) {
-        let expected = plain::index_add(&memory, &text).map_err(refusal);
+        let expected = plain::index_add(&memory, &text);
         compare.index_add(&memory, &text, &expected);
     }
     for text in [
@@ -328,7 +333,7 @@ fn additions_of_every_short_text() {
         b"[&U](1,2);",
         b"[&U](1,2);;",
     ] {
-        let expected = plain::index_add(&memory, text).map_err(refusal);
+        let expected = plain::index_add(&memory, text);
         compare.index_add(&memory, text, &expected);
     }
     let least = [(0, 4), (1, 5_000), (2, 500), (5, 40), (7, 7_000), (10, 1)];
@@ -393,21 +398,34 @@ fn indices_as_values() {
     let longer = [index.as_bytes(), b"behind"].concat();
     assert_eq!(Index::from_bytes(&longer), index);
     let mut shorter = Index::from_bytes(&longer[..INDEX_BYTES - 1]);
-    assert_eq!(shorter.neighbours(0), Err(SHORT));
-    assert_eq!(shorter.add(b"((1,2),3);"), Err(SHORT));
-    assert_eq!(shorter.remove(0), Err(SHORT));
+    let short = Err(SHORT);
+    assert_eq!(shorter.neighbours(0).map(drop).map_err(refusal), short);
+    assert_eq!(shorter.add("((1,2),3);").map(drop).map_err(refusal), short);
+    assert_eq!(shorter.remove(0).map_err(refusal), short);
     let none = Index::from_bytes(&[1; INDEX_BYTES])
         .neighbours(0)
         .unwrap_err();
-    assert_eq!(none.number, Refusal::NO_INDEX);
-    assert_eq!(
-        none.to_string(),
-        "refused 12 at 0 of text 0: memory that is that of no set of held trees"
-    );
+    assert_eq!((none.reason(), none.at()), (Reason::NoIndex, None));
     let free = index.neighbours(2).unwrap_err();
-    assert_eq!(
-        free.to_string(),
-        "refused 13 at 0 of text 0: a number that no held tree has"
-    );
+    assert_eq!((free.reason(), free.at()), (Reason::NotHeld, None));
     assert_eq!(index.remove(2), Err(free));
+}
+
+/// A tree while 160 are held has no place, whatever its text; one of other labels or another kind has its own.
+#[test]
+fn places_of_refused_additions() {
+    let mut index = Index::new();
+    for number in 0..MAX_TREES {
+        assert_eq!(index.add("(1,2);"), Ok(number));
+    }
+    let full = index.add("(1,2);").unwrap_err();
+    assert_eq!((full.reason(), full.at()), (Reason::TooManyTrees, None));
+    assert_eq!(index.remove(0), Ok(()));
+    let labels = index.add("(1,3);").unwrap_err();
+    assert_eq!(
+        (labels.reason(), labels.at()),
+        (Reason::LabelsDiffer, Some(5))
+    );
+    let kind = index.add("[&U](1,2);").unwrap_err();
+    assert_eq!((kind.reason(), kind.at()), (Reason::OtherKind, Some(9)));
 }
