@@ -55,6 +55,8 @@ parts=$(sed -n 's/^#define NORBELATH_VERSION_\(MAJOR\|MINOR\|PATCH\) *\([0-9]*\)
 agrees bindings/rust/Cargo.toml 'version ='
 agrees bindings/python/pyproject.toml 'version ='
 agrees bindings/python/norbelath.py '__version__ ='
+agrees report/pyproject.toml 'version ='
+agrees report/norbelath_report/__init__.py '__version__ ='
 
 machine=$(uname -m)-$(uname -s | tr '[:upper:]' '[:lower:]')
 name=norbelath-$version-$machine
@@ -78,15 +80,28 @@ is_commit
 take include include
 take bindings/rust rust tests
 take bindings/python python test.py examples
+take report report examples README.md
 take docs/man share/man/man1
 take bindings/examples examples
+take report/examples examples
 cp bindings/c/examples/neighbours.c bindings/python/examples/neighbours.py "$top/examples/"
+cp tools/trees.sh "$top/bin/"
+cat >"$top/bin/norbelath" <<'COMMAND'
+#!/bin/sh
+# The command norbelath. Needs Python 3.9 or newer with DendroPy; PYTHON names another one than python3.
+here=$(cd "$(dirname "$(readlink -f "$0")")/.." && pwd -P)
+PYTHONPATH=$here/report:$here/python${PYTHONPATH:+:$PYTHONPATH}
+export PYTHONPATH
+exec "${PYTHON:-python3}" -m norbelath_report "$@"
+COMMAND
+chmod +x "$top/bin/norbelath"
 # The documents stand as in the repository, so that the links between them lead somewhere.
 take docs doc/docs man landings
-mkdir "$top/doc/bindings" "$top/doc/bench"
+mkdir "$top/doc/bindings" "$top/doc/bench" "$top/doc/report"
 cp README.md "$top/doc/"
 cp bindings/README.md "$top/doc/bindings/"
 cp bench/README.md "$top/doc/bench/"
+cp report/README.md "$top/doc/report/"
 ln -s ../include "$top/doc/include"
 
 cat >"$top/README" <<README
@@ -108,6 +123,13 @@ Run the programs; share/man/man1 has their manual pages:
     bin/pair_lister <examples/trees.txt
     bin/islands <examples/trees.txt
 
+Make a report of samplers' files, check it and verify it. This needs Python 3.9 or
+newer with DendroPy (apt install python3-dendropy, or pip install dendropy):
+
+    bin/norbelath report examples/primates.run1.t examples/primates.run2.t -o primates --burn-in 25%
+    bin/pair_lister <primates/table.txt | cmp - primates/sheet.txt
+    bin/norbelath verify primates examples/primates.run1.t examples/primates.run2.t
+
 Use the library from C, Python 3.9 or newer, or Rust 1.63 or newer. Each example
 prints examples/neighbours.txt:
 
@@ -118,7 +140,8 @@ prints examples/neighbours.txt:
 
 doc/README.md is the README of the repository: what it calls target/bin is bin
 here. doc/docs/RULES.md has the rules, doc/docs/PROMISES.md what is promised and
-proved, doc/bindings/README.md the calls.
+proved, doc/bindings/README.md the calls, doc/report/README.md the reports.
+The programs and the library need the C library of GNU, glibc 2.34 or newer.
 README
 
 (cd "$top" && find . -type f -printf '%P\n' | sort | xargs -d '\n' sha256sum) >"$work/sums"

@@ -35,7 +35,7 @@ import itertools
 import operator
 import os
 import threading
-from ctypes import POINTER, byref, c_char, c_char_p, c_double, c_size_t, c_uint8, c_uint16, c_uint32, c_uint64
+from ctypes import POINTER, byref, c_char, c_char_p, c_double, c_size_t, c_uint8, c_uint16, c_uint32, c_uint64, c_void_p
 from dataclasses import dataclass
 from typing import Any, Callable, Iterable, Optional, Union
 
@@ -43,8 +43,8 @@ __version__ = "1.0.0"
 
 __all__ = [
     "Clade", "Copies", "Fork", "Graph", "Index", "Interchanges", "Islands", "Pair", "Plot", "Reason", "Refusal", "Support",
-    "Text", "Tip", "cut", "form", "graph", "graph_choosing", "interchanges", "islands", "labels", "pair", "plot", "row",
-    "row_pair", "row_text", "sheet", "support", "table",
+    "Text", "Tip", "cut", "form", "graph", "graph_choosing", "interchanges", "islands", "labels", "library_file", "pair",
+    "plot", "row", "row_pair", "row_text", "sheet", "support", "table",
 ]
 
 Text = Union[str, bytes, bytearray, memoryview]
@@ -407,6 +407,20 @@ def _loaded() -> dict[str, _Call]:
 
 
 _CALLS = _loaded()
+
+
+class _Origin(ctypes.Structure):
+    """What the system's loader tells of an address: `Dl_info` of C."""
+
+    _fields_ = [("file", c_char_p), ("base", c_void_p), ("symbol", c_char_p), ("address", c_void_p)]
+
+
+def library_file() -> str:
+    """The path of the shared library that answers the calls, for programs that say by which one they were made."""
+    origin = _Origin()
+    if not ctypes.CDLL(None).dladdr(ctypes.cast(_CALLS["form"], c_void_p), byref(origin)):
+        raise OSError("the system's loader does not tell the file of the shared library")
+    return os.path.abspath(os.fsdecode(origin.file))
 
 
 def _answer(name: str, *arguments: Any, further: tuple[Any, ...] = ()) -> tuple[int, int]:

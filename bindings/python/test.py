@@ -761,7 +761,9 @@ class Loading(unittest.TestCase):
     def run_module(self, **variables):
         """Import the copy in a process of its own. Gives what it printed, the loaded library's path, and its errors."""
         program = ("import norbelath; norbelath.form('1;')\n"
-                   "print({line.split()[-1] for line in open('/proc/self/maps') if 'libnorbelath' in line}.pop())")
+                   "maps = {line.split()[-1] for line in open('/proc/self/maps') if 'libnorbelath' in line}\n"
+                   "assert maps == {norbelath.library_file()}, norbelath.library_file()\n"
+                   "print(maps.pop())")
         environment = dict(os.environ)
         for name in ("NORBELATH_LIBRARY", "LD_LIBRARY_PATH"):
             environment.pop(name, None)

@@ -3,7 +3,8 @@
 # The archive is made again and has to have the same bytes. It is unpacked in an empty folder, where the sums, the programs,
 # the examples in C, Python and Rust, the manual pages and the links between the documents are tried. What tools/release.sh
 # has to refuse is tried in a clone, where a script that builds nothing stands for the kit.
-# Needs what tools/release.sh needs, Python 3 and cargo; nothing is fetched. Its last line is 'release: N checks'.
+# Needs what tools/release.sh needs, Python 3 with DendroPy and cargo; nothing is fetched. Its last line is
+# 'release: N checks'.
 set -euo pipefail
 [ $# -eq 1 ] || { echo "usage: $0 ARCHIVE" >&2; exit 2; }
 [ -f "$1" ] || { echo "$1: there is no such archive" >&2; exit 2; }
@@ -19,6 +20,12 @@ unset NORBELATH_LIBRARY NORBELATH_LIB_DIR LD_LIBRARY_PATH PYTHONPATH
 export LC_ALL=C PYTHONDONTWRITEBYTECODE=1 CARGO_NET_OFFLINE=true CARGO_TARGET_DIR=$work/cargo
 checks=0
 failed=0
+
+# A Python with DendroPy for the command norbelath: Debian's package is for Debian's own.
+for PYTHON in python3 /usr/bin/python3; do
+    if "$PYTHON" -c 'import dendropy' 2>/dev/null; then break; fi
+done
+export PYTHON
 
 # check WORDS COMMAND...: one check, which the command's status decides
 check() {
@@ -63,10 +70,12 @@ check "README names the commit" of_this_commit
 check "the shared library has its two names" soname_link
 check "nothing that the repository ignores is in it" nothing_ignored
 check "no file names the folder that it was made in" no_path_of_here
-for file in bin/pair_lister bin/islands lib/libnorbelath.a include/norbelath.h rust/Cargo.toml rust/examples/neighbours.rs \
-    python/norbelath.py python/pyproject.toml share/man/man1/pair_lister.1 share/man/man1/islands.1 examples/neighbours.c \
-    examples/neighbours.py examples/trees.txt examples/neighbours.txt doc/README.md doc/docs/RULES.md doc/docs/PROMISES.md \
-    doc/docs/READING.md doc/docs/DECISIONS.md doc/docs/BENCHMARKS.md doc/bindings/README.md; do
+for file in bin/pair_lister bin/islands bin/norbelath bin/trees.sh lib/libnorbelath.a include/norbelath.h rust/Cargo.toml \
+    rust/examples/neighbours.rs python/norbelath.py python/pyproject.toml report/norbelath_report/__init__.py \
+    report/pyproject.toml share/man/man1/pair_lister.1 share/man/man1/islands.1 share/man/man1/norbelath.1 \
+    examples/neighbours.c examples/neighbours.py examples/trees.txt examples/neighbours.txt examples/primates.run1.t \
+    examples/primates.run2.t doc/README.md doc/docs/RULES.md doc/docs/PROMISES.md doc/docs/READING.md doc/docs/DECISIONS.md \
+    doc/docs/BENCHMARKS.md doc/bindings/README.md doc/report/README.md; do
     check "$file is there" test -s "$top/$file"
 done
 
@@ -74,7 +83,7 @@ done
 
 damage_found() {
     cp "$damaged/$1" "$work/whole"
-    printf x | dd of="$damaged/$1" bs=1 seek=$((RANDOM % $(stat -c %s "$work/whole"))) conv=notrunc status=none
+    printf x | dd of="$damaged/$1" bs=1 seek=$(($(stat -c %s "$work/whole") / 2)) conv=notrunc status=none
     if cmp -s "$work/whole" "$damaged/$1"; then printf x >>"$damaged/$1"; fi
     if sums "$damaged"; then return 1; fi
     rm "$damaged/$1"
@@ -91,6 +100,7 @@ check "the sums are right for files put back" sums "$damaged"
 
 succeeds() { grep -qxF "    $1" "$top/README" && (cd "$top" && sh -c "$1"); }
 prints() { succeeds "$2" >"$work/out" && cmp "$work/out" "$1"; }
+report_sums() { (cd "$top/primates" && sha256sum --strict --quiet --ignore-missing -c SHA256SUMS); }
 
 python3 "$reference" <"$repository/bindings/examples/trees.txt" >"$work/sheet"
 python3 "$reference" --islands <"$repository/bindings/examples/trees.txt" >"$work/islands"
@@ -98,6 +108,12 @@ neighbours=$repository/bindings/examples/neighbours.txt
 check "the sums can be checked" succeeds 'sha256sum -c SHA256SUMS'
 check "pair_lister prints the independent program's sheet" prints "$work/sheet" 'bin/pair_lister <examples/trees.txt'
 check "islands prints the independent program's sheet" prints "$work/islands" 'bin/islands <examples/trees.txt'
+check "norbelath makes a report" succeeds \
+    'bin/norbelath report examples/primates.run1.t examples/primates.run2.t -o primates --burn-in 25%'
+check "pair_lister prints the report's sheet" succeeds 'bin/pair_lister <primates/table.txt | cmp - primates/sheet.txt'
+check "norbelath verifies the report" succeeds \
+    'bin/norbelath verify primates examples/primates.run1.t examples/primates.run2.t'
+check "the sums of the report are right" report_sums
 check "the example in C is compiled" succeeds 'cc -Iinclude examples/neighbours.c lib/libnorbelath.a -o neighbours'
 check "the example in C runs" prints "$neighbours" './neighbours <examples/trees.txt'
 check "the example in Python runs" prints "$neighbours" \
@@ -127,7 +143,11 @@ no_words() { "$@" >"$work/out" 2>&1 && ! grep . "$work/out"; }
 examples_right() {
     local page=$top/share/man/man1/$1.1 shown=$work/$1.shown text=1
     mkdir "$shown"
-    awk -v to="$shown/" '/^\.SH/ { on = /EXAMPLES/ } /^\.EE/ { at = "" } at { print >at } on && /^\.EX/ { at = to (++n) }' "$page"
+    awk -v to="$shown/" '
+        /^\.SH/ { on = /EXAMPLES/ }
+        /^\.EE/ { at = "" }
+        at { print >at }
+        on && /^\.EX/ { at = to (++n) }' "$page"
     while [ -f "$shown/$text" ]; do
         "$top/bin/$1" <"$shown/$text" | cmp - "$shown/$((text + 1))" || return 1
         text=$((text + 2))
@@ -136,10 +156,11 @@ examples_right() {
 }
 
 for program in pair_lister islands; do
-    page=$top/share/man/man1/$program.1
     check "the examples of $program.1 are right" examples_right "$program"
-    if command -v mandoc >/dev/null; then check "mandoc takes $program.1" no_words mandoc -T lint "$page"; fi
-    if command -v groff >/dev/null; then check "groff takes $program.1" no_words groff -man -ww -z -Tutf8 "$page"; fi
+done
+for page in "$top"/share/man/man1/*; do
+    if command -v mandoc >/dev/null; then check "mandoc takes $page" no_words mandoc -T lint "$page"; fi
+    if command -v groff >/dev/null; then check "groff takes $page" no_words groff -man -ww -z -Tutf8 "$page"; fi
 done
 
 # The documents: a link to a document, a picture or the header leads to one.
@@ -251,6 +272,10 @@ other_version bindings/python/pyproject.toml 'version ='
 check "another version of the Python package is refused" refuses 'bindings/python/pyproject.toml does not have the version'
 other_version bindings/python/norbelath.py '__version__ ='
 check "another version of the Python module is refused" refuses 'bindings/python/norbelath.py does not have the version'
+other_version report/pyproject.toml 'version ='
+check "another version of the report's package is refused" refuses 'report/pyproject.toml does not have the version'
+other_version report/norbelath_report/__init__.py '__version__ ='
+check "another version of the report is refused" refuses 'report/norbelath_report/__init__.py does not have the version'
 
 afresh
 check "nothing is released without rt" without_rt
