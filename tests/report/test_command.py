@@ -21,7 +21,11 @@ from norbelath_report.bar import Stages
 NAMES = {1: "Homo sapiens", 2: "Gorilla", 3: "Pan", 4: "Pongo"}
 A, B, C, D = "((1,2),(3,4));", "((1,3),(2,4));", "(((1,2),3),4);", "(((1,2),4),3);"
 
-START = "import sys; from norbelath_report.command import main; "
+# A process that was started in the background has Ctrl-C ignored, and leaves that to its children.
+START = (
+    "import signal; signal.signal(signal.SIGINT, signal.default_int_handler); "
+    "import sys; from norbelath_report.command import main; "
+)
 RUN = "sys.exit(main())"
 
 # A clock that goes on by ten seconds whenever it is asked.
