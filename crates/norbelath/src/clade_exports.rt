@@ -1,46 +1,9 @@
 // The calls on clades for programs in C and Rust.
-use clade_calls::SupportAnswer;
-use reading::Refusal;
+use replies::support_reply;
 ghost use mathlib.Core.Path.{_≡_};
 ghost use Rattle.families.specs.SupportCall.{supportCall};
-ghost use Rattle.clade_calls.specs.Paper.{supportAnswer, supportMemory};
-ghost use Rattle.norbelath.specs.Coded.{Numbered};
-ghost use Rattle.norbelath.specs.LongCoded.{supportValue, supportCoded};
-
-// A result and the three numbers beside it.
-struct LongReply {
-    result: u8,
-    first: u64,
-    second: u64,
-    third: u64,
-}
-
-// The refusal's number, which text, the place, and 0.
-fn long_refused(x: Refusal) -> LongReply
-    ensures { λ r. ⌜ r ≡ record { result = x .number; first = x .text; second = x .place; third = 0 } ⌝ }
-{
-    LongReply {
-        result: x.number,
-        first: x.text as u64,
-        second: x.place as u64,
-        third: 0,
-    }
-}
-
-fn support_reply(answer: SupportAnswer) -> LongReply
-    requires { ⌜ Numbered (supportAnswer answer) ⌝ }
-    ensures { λ r. ⌜ supportValue (r .result) (r .first) (r .second) (r .third) ≡ supportAnswer answer ⌝ }
-{
-    match answer {
-        SupportAnswer::Listed(clades, bytes, trees) => LongReply {
-            result: 0,
-            first: clades as u64,
-            second: bytes as u64,
-            third: trees as u64,
-        },
-        SupportAnswer::Refused(x) => long_refused(x),
-    }
-}
+ghost use Rattle.clade_calls.specs.Paper.{supportMemory};
+ghost use Rattle.replies.specs.LongCoded.{supportCoded};
 
 // Support call: the numbers are the clades, the bytes of the majority tree's text and the trees.
 #[no_mangle]

@@ -1,36 +1,10 @@
 // The calls on an index for programs in C and Rust.
-use super::Reply;
-use super::accepted;
-use super::hand_back;
-use super::refused;
-use super::text_reply;
-use index_calls::AddAnswer;
-use index_calls::RemoveAnswer;
-ghost use mathlib.Core.Path.{_≡_};
+use replies::add_reply;
+use replies::hand_back;
+use replies::remove_reply;
+use replies::text_reply;
 ghost use Rattle.holdings.specs.IndexCalls.{AddCall, AskCall, RemoveCall};
-ghost use Rattle.index_calls.specs.Added.{addAnswer};
-ghost use Rattle.index_calls.specs.Removed.{removeAnswer};
-ghost use Rattle.norbelath.specs.Coded.{coded, textValue, doneValue, textCoded, doneCoded, Numbered};
-
-fn add_reply(answer: AddAnswer) -> Reply
-    requires { ⌜ Numbered (addAnswer answer) ⌝ }
-    ensures { λ r. ⌜ coded textValue (r .result) (r .first) (r .second) ≡ addAnswer answer ⌝ }
-{
-    match answer {
-        AddAnswer::Number(number) => accepted(number, 0),
-        AddAnswer::Refused(x) => refused(x),
-    }
-}
-
-fn remove_reply(answer: RemoveAnswer) -> Reply
-    requires { ⌜ Numbered (removeAnswer answer) ⌝ }
-    ensures { λ r. ⌜ coded doneValue (r .result) (r .first) (r .second) ≡ removeAnswer answer ⌝ }
-{
-    match answer {
-        RemoveAnswer::Removed => accepted(0, 0),
-        RemoveAnswer::Refused(x) => refused(x),
-    }
-}
+ghost use Rattle.replies.specs.Coded.{textCoded, doneCoded};
 
 // Adding call: the numbers are the tree's number and 0.
 #[no_mangle]

@@ -1,103 +1,21 @@
 // The calls for programs in C and Rust. None asks anything of its caller. Each answers by a result and lent numbers, two or, of
-// the support call, three: `coded` and `supportValue` in specs/ say which answer they are, and include/norbelath.h says it to a
-// caller.
+// the support call, three: `coded` and `supportValue` of the crate `replies` say which answer they are, and include/norbelath.h
+// says it to a caller.
 pub mod clade_exports;
 pub mod index_exports;
 pub mod plot_exports;
 pub mod row_exports;
 
-use calls::PairAnswer;
-use calls::TableAnswer;
-use calls::TextAnswer;
-use links::Copies;
-use listing_calls::GraphAnswer;
-use reading::Refusal;
+use replies::copies_of;
+use replies::graph_reply;
+use replies::hand_back;
+use replies::pair_reply;
+use replies::table_reply;
+use replies::text_reply;
 ghost use mathlib.Core.Path.{_≡_};
 ghost use Rattle.meaning.specs.Calls.{formCall, cutCall, PairCall, tableCall, InterchangeCall, ChoosingCall, GraphCall, IslandsCall};
 ghost use Rattle.meaning.specs.Sheet.{SheetCall};
-ghost use Rattle.links.specs.Copies.{choiceOf};
-ghost use Rattle.calls.specs.Paper.{textAnswer, pairAnswer, tableAnswer};
-ghost use Rattle.listing_calls.specs.Paper.{graphAnswer};
-ghost use Rattle.norbelath.specs.Coded.{coded, textValue, pairValue, tableValue, graphValue, textCoded, tableCoded, graphCoded, choiceCoded, firstsCoded, islandsCoded, Numbered};
-
-// A result and the two numbers beside it.
-struct Reply {
-    result: u8,
-    first: u64,
-    second: u64,
-}
-
-// Result 0, and two numbers that say what is accepted.
-fn accepted(first: usize, second: usize) -> Reply
-    ensures { λ r. ⌜ r ≡ record { result = 0; first = first; second = second } ⌝ }
-{
-    Reply {
-        result: 0,
-        first: first as u64,
-        second: second as u64,
-    }
-}
-
-// The refusal's number, which text and the place.
-fn refused(x: Refusal) -> Reply
-    ensures { λ r. ⌜ r ≡ record { result = x .number; first = x .text; second = x .place } ⌝ }
-{
-    Reply {
-        result: x.number,
-        first: x.text as u64,
-        second: x.place as u64,
-    }
-}
-
-fn text_reply(answer: TextAnswer) -> Reply
-    requires { ⌜ Numbered (textAnswer answer) ⌝ }
-    ensures { λ r. ⌜ coded textValue (r .result) (r .first) (r .second) ≡ textAnswer answer ⌝ }
-{
-    match answer {
-        TextAnswer::Written(bytes) => accepted(bytes, 0),
-        TextAnswer::Refused(x) => refused(x),
-    }
-}
-
-fn pair_reply(answer: PairAnswer) -> Reply
-    requires { ⌜ Numbered (pairAnswer answer) ⌝ }
-    ensures { λ r. ⌜ coded pairValue (r .result) (r .first) (r .second) ≡ pairAnswer answer ⌝ }
-{
-    match answer {
-        PairAnswer::Yes(forests) => accepted(1, forests),
-        PairAnswer::No(forests) => accepted(0, forests),
-        PairAnswer::Refused(x) => refused(x),
-    }
-}
-
-fn table_reply(answer: TableAnswer) -> Reply
-    requires { ⌜ Numbered (tableAnswer answer) ⌝ }
-    ensures { λ r. ⌜ coded tableValue (r .result) (r .first) (r .second) ≡ tableAnswer answer ⌝ }
-{
-    match answer {
-        TableAnswer::Written(bytes, trees) => accepted(bytes, trees),
-        TableAnswer::Refused(x) => refused(x),
-    }
-}
-
-fn graph_reply(answer: GraphAnswer) -> Reply
-    requires { ⌜ Numbered (graphAnswer answer) ⌝ }
-    ensures { λ r. ⌜ coded graphValue (r .result) (r .first) (r .second) ≡ graphAnswer answer ⌝ }
-{
-    match answer {
-        GraphAnswer::Listed(trees, pairs) => accepted(trees, pairs),
-        GraphAnswer::Refused(x) => refused(x),
-    }
-}
-
-// A reply as the result and the lent numbers.
-fn hand_back(reply: Reply, first: &mut u64, second: &mut u64) -> u8
-    ensures { λ r. ⌜ record { result = r; first = now (first .exit); second = now (second .exit) } ≡ reply ⌝ }
-{
-    *first = reply.first;
-    *second = reply.second;
-    reply.result
-}
+ghost use Rattle.replies.specs.Coded.{coded, pairValue, textCoded, tableCoded, graphCoded, choiceCoded, firstsCoded, islandsCoded};
 
 // Form call: the numbers are the bytes written and 0.
 #[no_mangle]
@@ -156,17 +74,6 @@ pub extern "C" fn norbelath_table(
         first,
         second,
     )
-}
-
-// What becomes of copies: 0 merges them, and any other number keeps them apart.
-fn copies_of(choice: u8) -> Copies
-    ensures { λ r. ⌜ choiceOf r ≡ choiceCoded choice ⌝ }
-{
-    if choice == 0 {
-        Copies::Merged
-    } else {
-        Copies::KeptApart
-    }
 }
 
 // Graph call with a stated choice: the numbers are the trees and the pairs.

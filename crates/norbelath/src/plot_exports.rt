@@ -1,10 +1,10 @@
 // The plot call for programs in C and Rust.
-use super::hand_back;
-use super::text_reply;
+use replies::hand_back;
+use replies::text_reply;
 ghost use mathlib.Core.Path.{_≡_};
 ghost use Rattle.plots.specs.PlotCall.{plotCall};
 ghost use Rattle.plot_calls.specs.Paper.{plotMemory};
-ghost use Rattle.norbelath.specs.Coded.{plotCoded};
+ghost use Rattle.replies.specs.Coded.{plotCoded};
 
 // Plot call: the numbers are how many nodes the tree has and 0.
 #[no_mangle]

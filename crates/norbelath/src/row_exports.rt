@@ -1,10 +1,10 @@
 // The calls on rows for programs in C and Rust.
-use super::hand_back;
-use super::pair_reply;
-use super::text_reply;
+use replies::hand_back;
+use replies::pair_reply;
+use replies::text_reply;
 ghost use mathlib.Core.Path.{_≡_};
 ghost use Rattle.families.specs.RowCalls.{rowCall, rowTextCall, RowPairCall};
-ghost use Rattle.norbelath.specs.Coded.{coded, pairValue, textCoded};
+ghost use Rattle.replies.specs.Coded.{coded, pairValue, textCoded};
 
 // Row call: the numbers are how many the row has and 0.
 #[no_mangle]

@@ -1,8 +1,8 @@
 -- `norbelath::norbelath_cut` meets its contract.
 -- Assumes nothing.
-use Rattle.norbelath.specs.Coded.{textValue}
-use Rattle.norbelath.proofs.Numbered.{cut-numbered, numbered-as}
-use Rattle.norbelath.proofs.Replies.{handed-back, answered-as}
+use Rattle.replies.specs.Coded.{textValue}
+use Rattle.replies.proofs.Numbered.{cut-numbered, numbered-as}
+use Rattle.replies.proofs.Replies.{handed-back, answered-as}
 use borrow.Author.Needs.{needs}
 use Rattle.norbelath.proofs.norbelath_cut.Statement.{statement}
 use Rattle.norbelath.proofs.norbelath_cut.Tie as tie

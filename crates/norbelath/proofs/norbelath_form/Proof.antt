@@ -1,8 +1,8 @@
 -- `norbelath::norbelath_form` meets its contract.
 -- Assumes nothing.
-use Rattle.norbelath.specs.Coded.{textValue}
-use Rattle.norbelath.proofs.Numbered.{form-numbered, numbered-as}
-use Rattle.norbelath.proofs.Replies.{handed-back, answered-as}
+use Rattle.replies.specs.Coded.{textValue}
+use Rattle.replies.proofs.Numbered.{form-numbered, numbered-as}
+use Rattle.replies.proofs.Replies.{handed-back, answered-as}
 use borrow.Author.Needs.{needs}
 use Rattle.norbelath.proofs.norbelath_form.Statement.{statement}
 use Rattle.norbelath.proofs.norbelath_form.Tie as tie

@@ -1,8 +1,8 @@
 -- `norbelath::norbelath_interchanges` meets its contract.
 -- Assumes nothing.
-use Rattle.norbelath.specs.Coded.{graphValue}
-use Rattle.norbelath.proofs.Numbered.{interchange-numbered}
-use Rattle.norbelath.proofs.Replies.{handed-back}
+use Rattle.replies.specs.Coded.{graphValue}
+use Rattle.replies.proofs.Numbered.{interchange-numbered}
+use Rattle.replies.proofs.Replies.{handed-back}
 use borrow.Author.Needs.{needs}
 use Rattle.norbelath.proofs.norbelath_interchanges.Statement.{statement}
 use Rattle.norbelath.proofs.norbelath_interchanges.Tie as tie

@@ -1,8 +1,8 @@
 -- `norbelath::norbelath_islands` meets its contract.
 -- Assumes nothing.
-use Rattle.norbelath.specs.Coded.{graphValue}
-use Rattle.norbelath.proofs.Numbered.{islands-numbered}
-use Rattle.norbelath.proofs.Replies.{handed-back}
+use Rattle.replies.specs.Coded.{graphValue}
+use Rattle.replies.proofs.Numbered.{islands-numbered}
+use Rattle.replies.proofs.Replies.{handed-back}
 use borrow.Author.Needs.{needs}
 use Rattle.norbelath.proofs.norbelath_islands.Statement.{statement}
 use Rattle.norbelath.proofs.norbelath_islands.Tie as tie

@@ -1,8 +1,8 @@
 -- `norbelath::norbelath_pair` meets its contract.
 -- Assumes nothing.
-use Rattle.norbelath.specs.Coded.{pairValue}
-use Rattle.norbelath.proofs.Numbered.{pair-numbered}
-use Rattle.norbelath.proofs.Replies.{handed-back}
+use Rattle.replies.specs.Coded.{pairValue}
+use Rattle.replies.proofs.Numbered.{pair-numbered}
+use Rattle.replies.proofs.Replies.{handed-back}
 use borrow.Author.Needs.{needs}
 use Rattle.norbelath.proofs.norbelath_pair.Statement.{statement}
 use Rattle.norbelath.proofs.norbelath_pair.Tie as tie

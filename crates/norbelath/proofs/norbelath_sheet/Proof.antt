@@ -1,8 +1,8 @@
 -- `norbelath::norbelath_sheet` meets its contract.
 -- Assumes nothing.
-use Rattle.norbelath.specs.Coded.{textValue}
-use Rattle.norbelath.proofs.Numbered.{sheet-numbered}
-use Rattle.norbelath.proofs.Replies.{handed-back}
+use Rattle.replies.specs.Coded.{textValue}
+use Rattle.replies.proofs.Numbered.{sheet-numbered}
+use Rattle.replies.proofs.Replies.{handed-back}
 use borrow.Author.Needs.{needs}
 use Rattle.norbelath.proofs.norbelath_sheet.Statement.{statement}
 use Rattle.norbelath.proofs.norbelath_sheet.Tie as tie

@@ -1,8 +1,8 @@
 -- `norbelath::norbelath_table` meets its contract.
 -- Assumes nothing.
-use Rattle.norbelath.specs.Coded.{tableValue}
-use Rattle.norbelath.proofs.Numbered.{table-numbered, numbered-as}
-use Rattle.norbelath.proofs.Replies.{handed-back, answered-as}
+use Rattle.replies.specs.Coded.{tableValue}
+use Rattle.replies.proofs.Numbered.{table-numbered, numbered-as}
+use Rattle.replies.proofs.Replies.{handed-back, answered-as}
 use borrow.Author.Needs.{needs}
 use Rattle.norbelath.proofs.norbelath_table.Statement.{statement}
 use Rattle.norbelath.proofs.norbelath_table.Tie as tie

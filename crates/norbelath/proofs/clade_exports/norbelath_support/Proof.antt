@@ -2,8 +2,8 @@
 -- Assumes nothing.
 use borrow.Author.Needs.{needs}
 use Rattle.clade_calls.specs.Paper.{supportMemory}
-use Rattle.norbelath.proofs.Numbered.{support-numbered, numbered-as}
-use Rattle.norbelath.proofs.Replies.{answered-as}
+use Rattle.replies.proofs.Numbered.{support-numbered, numbered-as}
+use Rattle.replies.proofs.Replies.{answered-as}
 use Rattle.norbelath.proofs.clade_exports.norbelath_support.Statement.{statement}
 use Rattle.norbelath.proofs.clade_exports.norbelath_support.Tie as tie
 

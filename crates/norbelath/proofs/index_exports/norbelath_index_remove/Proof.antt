@@ -1,8 +1,8 @@
 -- `norbelath::index_exports::norbelath_index_remove` meets its contract.
 -- Assumes nothing.
-use Rattle.norbelath.specs.Coded.{doneValue}
-use Rattle.norbelath.proofs.Numbered.{remove-numbered}
-use Rattle.norbelath.proofs.Replies.{handed-back}
+use Rattle.replies.specs.Coded.{doneValue}
+use Rattle.replies.proofs.Numbered.{remove-numbered}
+use Rattle.replies.proofs.Replies.{handed-back}
 use borrow.Author.Needs.{needs}
 use Rattle.norbelath.proofs.index_exports.norbelath_index_remove.Statement.{statement}
 use Rattle.norbelath.proofs.index_exports.norbelath_index_remove.Tie as tie

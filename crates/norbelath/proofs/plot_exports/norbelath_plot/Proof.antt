@@ -1,9 +1,9 @@
 -- `norbelath::plot_exports::norbelath_plot` meets its contract.
 -- Assumes nothing.
 use Rattle.plot_calls.specs.Paper.{plotMemory}
-use Rattle.norbelath.specs.Coded.{textValue}
-use Rattle.norbelath.proofs.Numbered.{plot-numbered, numbered-as}
-use Rattle.norbelath.proofs.Replies.{handed-back, answered-as}
+use Rattle.replies.specs.Coded.{textValue}
+use Rattle.replies.proofs.Numbered.{plot-numbered, numbered-as}
+use Rattle.replies.proofs.Replies.{handed-back, answered-as}
 use borrow.Author.Needs.{needs}
 use Rattle.norbelath.proofs.plot_exports.norbelath_plot.Statement.{statement}
 use Rattle.norbelath.proofs.plot_exports.norbelath_plot.Tie as tie

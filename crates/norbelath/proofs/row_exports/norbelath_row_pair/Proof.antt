@@ -1,8 +1,8 @@
 -- `norbelath::row_exports::norbelath_row_pair` meets its contract.
 -- Assumes nothing.
-use Rattle.norbelath.specs.Coded.{pairValue}
-use Rattle.norbelath.proofs.Numbered.{row-pair-numbered}
-use Rattle.norbelath.proofs.Replies.{handed-back}
+use Rattle.replies.specs.Coded.{pairValue}
+use Rattle.replies.proofs.Numbered.{row-pair-numbered}
+use Rattle.replies.proofs.Replies.{handed-back}
 use borrow.Author.Needs.{needs}
 use Rattle.norbelath.proofs.row_exports.norbelath_row_pair.Statement.{statement}
 use Rattle.norbelath.proofs.row_exports.norbelath_row_pair.Tie as tie

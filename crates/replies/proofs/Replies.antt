@@ -6,8 +6,8 @@ use native.Mathlib.Omega.{arith}
 use Rattle.meaning.specs.Answer.{Answer, refusal, Outcome}
 use Rattle.reading.specs.declared.Refusal.{Refusal}
 use Rattle.reading.specs.Paper.{refusalOf}
-use Rattle.norbelath.specs.Coded.{coded, Numbered}
-use Rattle.norbelath.specs.declared.Reply.{Reply}
+use Rattle.replies.specs.Coded.{coded, Numbered}
+use Rattle.replies.specs.declared.Reply.{Reply}
 
 module _ {A : Type 0} (value : ℕ → ℕ → Answer A) where
   -- the answer that a reply is

@@ -1,9 +1,9 @@
--- `norbelath::clade_exports::long_refused` meets its contract.
+-- `replies::clade_replies::long_refused` meets its contract.
 -- Assumes nothing.
 use mathlib.Core.Path.{refl}
 use borrow.Author.Needs.{needs}
-use Rattle.norbelath.proofs.clade_exports.long_refused.Statement.{statement}
-use Rattle.norbelath.proofs.clade_exports.long_refused.Tie as tie
+use Rattle.replies.proofs.clade_replies.long_refused.Statement.{statement}
+use Rattle.replies.proofs.clade_replies.long_refused.Tie as tie
 
 cast-text : tie.Need-cast-t2
 cast-text c = search needs

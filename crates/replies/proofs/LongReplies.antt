@@ -8,10 +8,10 @@ use Rattle.meaning.specs.Answer.{Answer, accepted, refusal, Outcome}
 use Rattle.reading.specs.declared.Refusal.{Refusal}
 use Rattle.reading.specs.Paper.{refusalOf}
 use Rattle.families.specs.SupportCall.{SupportSize, SupportMemory, supportCall}
-use Rattle.norbelath.specs.Coded.{Numbered}
-use Rattle.norbelath.specs.LongCoded.{supportValue, supportCoded}
-use Rattle.norbelath.specs.declared.clade_exports.LongReply.{LongReply}
-use Rattle.norbelath.proofs.Numbered.{support-numbered, numbered-as}
+use Rattle.replies.specs.Coded.{Numbered}
+use Rattle.replies.specs.LongCoded.{supportValue, supportCoded}
+use Rattle.replies.specs.declared.clade_replies.LongReply.{LongReply}
+use Rattle.replies.proofs.Numbered.{support-numbered, numbered-as}
 
 abbrev pub longReply : ℕ → ℕ → ℕ → ℕ → LongReply
 longReply r x y z = record { result = r; first = x; second = y; third = z }

@@ -1,11 +1,11 @@
--- `norbelath::copies_of` meets its contract.
+-- `replies::copies_of` meets its contract.
 -- Assumes nothing.
 use mathlib.Core.Path.{_≡_, refl}
 use Prim.Native.Nat.{ℕ, zero, suc}
 use Rattle.meaning.specs.Copies.{kept-apart}
-use Rattle.norbelath.specs.Coded.{choiceCoded}
-use Rattle.norbelath.proofs.copies_of.Statement.{statement}
-use Rattle.norbelath.proofs.copies_of.Tie as tie
+use Rattle.replies.specs.Coded.{choiceCoded}
+use Rattle.replies.proofs.copies_of.Statement.{statement}
+use Rattle.replies.proofs.copies_of.Tie as tie
 
 -- any number but 0
 apart : (n : ℕ) → (n ≡ 0 → ⊥) → kept-apart ≡ choiceCoded n

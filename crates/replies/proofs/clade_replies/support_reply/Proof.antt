@@ -1,11 +1,11 @@
--- `norbelath::clade_exports::support_reply` meets its contract.
+-- `replies::clade_replies::support_reply` meets its contract.
 -- Assumes nothing.
 use mathlib.Core.Path.{sym, ap}
 use borrow.Author.Needs.{needs}
 use Rattle.clade_calls.specs.Paper.{supportAnswer}
-use Rattle.norbelath.proofs.LongReplies.{said-refused}
-use Rattle.norbelath.proofs.clade_exports.support_reply.Statement.{statement}
-use Rattle.norbelath.proofs.clade_exports.support_reply.Tie as tie
+use Rattle.replies.proofs.LongReplies.{said-refused}
+use Rattle.replies.proofs.clade_replies.support_reply.Statement.{statement}
+use Rattle.replies.proofs.clade_replies.support_reply.Tie as tie
 
 enum-known-answer : tie.Need-enum-known-answer
 enum-known-answer c = search needs

@@ -27,7 +27,7 @@ use Rattle.plots.specs.PlotCall.{PlotMemory, plotOf, plotCall}
 use Rattle.plots.proofs.PlotCall.{plot-tells}
 use Rattle.holdings.specs.IndexCalls.{addTo, AddCall, adds, AskCall, removeFrom, RemoveCall, removes}
 use Rattle.holdings.proofs.IndexCalls.{add-tells, ask-tells, remove-tells}
-use Rattle.norbelath.specs.Coded.{Numbered}
+use Rattle.replies.specs.Coded.{Numbered}
 
 -- 0 is none of the lines
 from-one : {n : ℕ} {lines : List ℕ} → T (every (leb 1) lines) → List·Memᴰ n lines → 1 ≤ n

@@ -1,12 +1,12 @@
--- `norbelath::graph_reply` meets its contract.
+-- `replies::graph_reply` meets its contract.
 -- Assumes nothing.
 use mathlib.Core.Path.{ap}
 use Rattle.listing_calls.specs.Paper.{graphAnswer}
-use Rattle.norbelath.specs.Coded.{graphValue}
-use Rattle.norbelath.proofs.Replies.{said-accepted, said-refused}
+use Rattle.replies.specs.Coded.{graphValue}
+use Rattle.replies.proofs.Replies.{said-accepted, said-refused}
 use borrow.Author.Needs.{needs}
-use Rattle.norbelath.proofs.graph_reply.Statement.{statement}
-use Rattle.norbelath.proofs.graph_reply.Tie as tie
+use Rattle.replies.proofs.graph_reply.Statement.{statement}
+use Rattle.replies.proofs.graph_reply.Tie as tie
 
 enum-known-answer : tie.Need-enum-known-answer
 enum-known-answer c = search needs

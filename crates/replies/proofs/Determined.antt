@@ -13,8 +13,8 @@ use Rattle.meaning.proofs.Determined.{pair-determined, lists-determined, island
 use Rattle.holdings.specs.IndexCalls.{AddCall, AskCall, RemoveCall}
 use Rattle.holdings.proofs.IndexCalls.{add-determined, ask-determined, remove-determined}
 use Rattle.plots.specs.PlotCall.{PlotMemory}
-use Rattle.norbelath.specs.Coded.{coded, textValue, doneValue, pairValue, tableValue, graphValue, textCoded, plotCoded, doneCoded, tableCoded, graphCoded, firstsCoded, islandsCoded}
-use Rattle.norbelath.specs.declared.Reply.{Reply}
+use Rattle.replies.specs.Coded.{coded, textValue, doneValue, pairValue, tableValue, graphValue, textCoded, plotCoded, doneCoded, tableCoded, graphCoded, firstsCoded, islandsCoded}
+use Rattle.replies.specs.declared.Reply.{Reply}
 
 abbrev pub reply : ℕ → ℕ → ℕ → Reply
 reply r x y = record { result = r; first = x; second = y }

@@ -1,12 +1,12 @@
--- `norbelath::index_exports::remove_reply` meets its contract.
+-- `replies::index_replies::remove_reply` meets its contract.
 -- Assumes nothing.
 use mathlib.Core.Path.{ap}
 use Rattle.index_calls.specs.Removed.{removeAnswer}
-use Rattle.norbelath.specs.Coded.{doneValue}
-use Rattle.norbelath.proofs.Replies.{said-accepted, said-refused}
+use Rattle.replies.specs.Coded.{doneValue}
+use Rattle.replies.proofs.Replies.{said-accepted, said-refused}
 use borrow.Author.Needs.{needs}
-use Rattle.norbelath.proofs.index_exports.remove_reply.Statement.{statement}
-use Rattle.norbelath.proofs.index_exports.remove_reply.Tie as tie
+use Rattle.replies.proofs.index_replies.remove_reply.Statement.{statement}
+use Rattle.replies.proofs.index_replies.remove_reply.Tie as tie
 
 enum-told : tie.Need-enum-told
 enum-told c = search needs
