@@ -8,7 +8,7 @@ use Rattle.meaning.specs.Answer.{Answer, accepted, refusal, Outcome, Comparison
 use Rattle.meaning.specs.Calls.{formCall, cutCall, PairCall, tableCall}
 use Rattle.meaning.proofs.Determined.{pair-determined}
 use Rattle.meaning.proofs.Logic.{clash}
-use Rattle.reading.proofs.Steps.{refusal-one}
+use Rattle.tokens.proofs.Steps.{refusal-one}
 use Rattle.calls.specs.Paper.{textAnswer, textOutcome, pairAnswer, tableAnswer, tableOutcome}
 use Rattle.calls.specs.declared.TextAnswer.{TextAnswer}
 use Rattle.calls.specs.declared.TextAnswer.the-variants.{Written, Refused}

@@ -27,13 +27,13 @@ use Rattle.pairs.specs.declared.Comparison.{Comparison as Told}
 use Rattle.unrooted.specs.Apart.{ApartHung}
 use Rattle.unrooted.proofs.Apart.{standing-iff}
 use Rattle.reading.specs.Whole.{TreeMeets}
-use Rattle.reading.specs.declared.Refusal.{Refusal}
+use Rattle.tokens.specs.declared.Refusal.{Refusal}
 use Rattle.reading.specs.declared.TreeRead.{TreeRead}
-use Rattle.reading.specs.declared.Step.the-variants.{Next, Refused as StepRefused}
-use Rattle.reading.proofs.Steps.{Accepts, step-next, step-denied}
+use Rattle.tokens.specs.declared.Step.the-variants.{Next, Refused as StepRefused}
+use Rattle.tokens.proofs.Steps.{Accepts, step-next, step-denied}
 use Rattle.calls.specs.Paper.{comparisonOf}
 use Rattle.calls.specs.Paired.{TestedAs, Answers, is-apart, not-apart, refuses}
-use Rattle.reading.specs.Paper.{refusalOf}
+use Rattle.tokens.specs.Paper.{refusalOf}
 
 -- what is answered to an answer that is known
 answers : {a a′ : Answer ((x : Kinded) × Kinded)} {b : Answer Comparison} → a ≡ a′ → Answers a′ b → Answers a b

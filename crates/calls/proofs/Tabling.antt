@@ -23,8 +23,8 @@ use Rattle.lent.proofs.Runs.{sets-start, wrote-one, wrote-more, wrote-length}
 use Rattle.held.specs.Kept.{KeepsKind, KeptKindRoom, heldAt, KeepsTrees}
 use Rattle.held.specs.declared.Table.{Table}
 use Rattle.held.proofs.Kept.{keeps-good, keeps-kinded}
-use Rattle.reading.specs.declared.Refusal.{Refusal}
-use Rattle.reading.specs.declared.Step.the-variants.{Next, Refused as StepRefused}
+use Rattle.tokens.specs.declared.Refusal.{Refusal}
+use Rattle.tokens.specs.declared.Step.the-variants.{Next, Refused as StepRefused}
 use Rattle.tables.specs.declared.TableRead.{TableRead}
 use Rattle.tables.specs.Lent.{TableLent}
 use Rattle.calls.specs.Paper.{tableOutcome}

@@ -27,13 +27,13 @@ use Rattle.held.specs.Held.{nodes}
 use Rattle.held.specs.Kept.{Keeps, KeepsKind, KeptKindRoom}
 use Rattle.held.specs.declared.Tree.{Tree}
 use Rattle.held.proofs.Laws.{twice, some-nodes}
-use Rattle.reading.specs.declared.Refusal.{Refusal}
+use Rattle.tokens.specs.declared.Refusal.{Refusal}
 use Rattle.reading.specs.declared.TreeRead.{TreeRead}
-use Rattle.reading.specs.declared.Step.the-variants.{Next, Refused as StepRefused}
+use Rattle.tokens.specs.declared.Step.the-variants.{Next, Refused as StepRefused}
 use Rattle.writing.specs.Writing.{ForestFits}
 use Rattle.tables.specs.Lent.{TreeLent}
 use Rattle.calls.specs.Cuts.{CutRoom, cutText}
-use Rattle.reading.specs.Paper.{refusalOf}
+use Rattle.tokens.specs.Paper.{refusalOf}
 use Rattle.calls.specs.Paper.{textOutcome}
 use Rattle.calls.specs.declared.TextAnswer.{TextAnswer}
 use Rattle.calls.specs.declared.TextAnswer.the-variants.{Written, Refused}

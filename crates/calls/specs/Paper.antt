@@ -4,7 +4,7 @@ use mathlib.Core.Bool.{true, false}
 use mathlib.Core.List.{List}
 use Prim.Native.Nat.{ℕ}
 use Rattle.meaning.specs.Answer.{Answer, accepted, Outcome, Comparison, TableSize, TableMemory}
-use Rattle.reading.specs.Paper.{refusalOf}
+use Rattle.tokens.specs.Paper.{refusalOf}
 use Rattle.pairs.specs.declared.Comparison.{Comparison as Told}
 use Rattle.calls.specs.declared.TextAnswer.{TextAnswer}
 use Rattle.calls.specs.declared.TextAnswer.the-variants.{Written, Refused}

@@ -5,7 +5,7 @@ use mathlib.Core.List.{List}
 use Prim.Native.Nat.{ℕ}
 use Rattle.meaning.specs.Answer.{Outcome}
 use Rattle.meaning.proofs.Logic.{clash}
-use Rattle.reading.proofs.Steps.{refusal-one}
+use Rattle.tokens.proofs.Steps.{refusal-one}
 use Rattle.families.specs.SupportCall.{SupportSize, SupportMemory, supportCall}
 use Rattle.clade_calls.specs.Paper.{supportAnswer, supportOutcome}
 use Rattle.clade_calls.specs.declared.SupportAnswer.{SupportAnswer}

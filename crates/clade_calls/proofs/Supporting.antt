@@ -25,8 +25,8 @@ use Rattle.held.specs.declared.Tree.{Tree}
 use Rattle.held.specs.declared.Table.{Table}
 use Rattle.held.proofs.Kept.{keeps-holds}
 use Rattle.held.proofs.Laws.{unique}
-use Rattle.reading.specs.declared.Refusal.{Refusal}
-use Rattle.reading.specs.declared.Step.the-variants.{Next, Refused as StepRefused}
+use Rattle.tokens.specs.declared.Refusal.{Refusal}
+use Rattle.tokens.specs.declared.Step.the-variants.{Next, Refused as StepRefused}
 use Rattle.tables.specs.declared.TableRead.{TableRead}
 use Rattle.tables.specs.Lent.{TableLent}
 use Rattle.tables.proofs.Lent.{Given, lent-next, lent-refused}

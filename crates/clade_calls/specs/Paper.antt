@@ -3,7 +3,7 @@
 use mathlib.Core.List.{List}
 use Prim.Native.Nat.{ℕ}
 use Rattle.meaning.specs.Answer.{Answer, accepted, Outcome}
-use Rattle.reading.specs.Paper.{refusalOf}
+use Rattle.tokens.specs.Paper.{refusalOf}
 use Rattle.families.specs.SupportCall.{SupportSize, SupportMemory}
 use Rattle.clade_calls.specs.declared.SupportAnswer.{SupportAnswer}
 use Rattle.clade_calls.specs.declared.SupportAnswer.the-variants.{Listed, Refused}

@@ -3,10 +3,10 @@
 use held::Table;
 use held::Tree;
 use lent::enough;
-use reading::Refusal;
-use reading::Step;
 use reading::Takes;
 use sorting::Pool;
+use tokens::Refusal;
+use tokens::Step;
 ghost use mathlib.Core.Path.{_≡_};
 ghost use mathlib.Core.List.{List};
 ghost use lib.ListN.{length};

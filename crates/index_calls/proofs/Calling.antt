@@ -18,10 +18,10 @@ use Rattle.meaning.proofs.Lent.{eight, in-limit}
 use Rattle.held.specs.Kept.{KeepsKind}
 use Rattle.held.specs.declared.Tree.{Tree}
 use Rattle.reading.specs.Whole.{TreeMeets}
-use Rattle.reading.specs.declared.Refusal.{Refusal}
+use Rattle.tokens.specs.declared.Refusal.{Refusal}
 use Rattle.reading.specs.declared.TreeRead.{TreeRead}
-use Rattle.reading.specs.declared.Step.the-variants.{Next, Refused as StepRefused}
-use Rattle.reading.proofs.Steps.{step-next, step-denied}
+use Rattle.tokens.specs.declared.Step.the-variants.{Next, Refused as StepRefused}
+use Rattle.tokens.proofs.Steps.{step-next, step-denied}
 use Rattle.holdings.specs.Slots.{Slot, free, held, slotAt, smallestFree, add, remove, trees}
 use Rattle.holdings.specs.Memory.{indexBytes, encode, IsIndex, Valid, Shelves}
 use Rattle.holdings.specs.IndexCalls.{Opened, closed, opens, foreign, indexSlices, addFirst, table, fitting, addTo, AddCall, adds, having, askSlices, askFirst, numberRead, AskCall, removeFirst, removeFrom, RemoveCall, removes}

@@ -5,7 +5,7 @@ use mathlib.Core.List.{List}
 use Prim.Native.Nat.{ℕ}
 use Rattle.meaning.specs.Answer.{Outcome}
 use Rattle.meaning.proofs.Logic.{clash}
-use Rattle.reading.proofs.Steps.{refusal-one}
+use Rattle.tokens.proofs.Steps.{refusal-one}
 use Rattle.holdings.specs.IndexCalls.{AddCall, AskCall, RemoveCall}
 use Rattle.holdings.proofs.IndexCalls.{add-determined, ask-determined, remove-determined}
 use Rattle.calls.specs.Paper.{textOutcome}

@@ -9,7 +9,7 @@ use Rattle.meaning.specs.Reading.{Read}
 use Rattle.meaning.specs.Answer.{Answer, accepted, Outcome, onward, conclude}
 use Rattle.holdings.specs.Slots.{Slot, free, held}
 use Rattle.holdings.specs.IndexCalls.{joined, addTo}
-use Rattle.reading.specs.Paper.{refusalOf}
+use Rattle.tokens.specs.Paper.{refusalOf}
 use Rattle.index_calls.specs.declared.AddAnswer.{AddAnswer}
 use Rattle.index_calls.specs.declared.AddAnswer.the-variants.{Number, Refused}
 

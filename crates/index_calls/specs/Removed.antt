@@ -8,7 +8,7 @@ use Rattle.meaning.specs.Answer.{Answer, accepted, Outcome}
 use Rattle.meaning.specs.Tree.{Tree}
 use Rattle.holdings.specs.Slots.{free, held, slotAt}
 use Rattle.holdings.specs.Memory.{Valid}
-use Rattle.reading.specs.Paper.{refusalOf}
+use Rattle.tokens.specs.Paper.{refusalOf}
 use Rattle.index_calls.specs.declared.RemoveAnswer.{RemoveAnswer}
 use Rattle.index_calls.specs.declared.RemoveAnswer.the-variants.{Removed, Refused}
 

@@ -9,7 +9,7 @@ use Rattle.meaning.specs.Copies.{Choice}
 use Rattle.meaning.specs.Sheet.{SheetCall}
 use Rattle.meaning.proofs.Determined.{lists-determined, islands-determined, sheet-call-determined as sheet-determined}
 use Rattle.meaning.proofs.Logic.{clash}
-use Rattle.reading.proofs.Steps.{refusal-one}
+use Rattle.tokens.proofs.Steps.{refusal-one}
 use Rattle.calls.specs.Paper.{textOutcome}
 use Rattle.calls.specs.declared.TextAnswer.{TextAnswer}
 use Rattle.calls.proofs.Determined.{text-determined}

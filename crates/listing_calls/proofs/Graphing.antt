@@ -18,8 +18,8 @@ use Rattle.meaning.proofs.Sums.{map-length}
 use Rattle.meaning.proofs.Lent.{lent-ample}
 use Rattle.lent.proofs.Runs.{sets-start}
 use Rattle.held.specs.Kept.{KeptAll, KeepsTrees}
-use Rattle.reading.specs.declared.Refusal.{Refusal}
-use Rattle.reading.specs.declared.Step.the-variants.{Next, Refused as StepRefused}
+use Rattle.tokens.specs.declared.Refusal.{Refusal}
+use Rattle.tokens.specs.declared.Step.the-variants.{Next, Refused as StepRefused}
 use Rattle.tables.specs.declared.TableRead.{TableRead}
 use Rattle.links.specs.Links.{OfTrees}
 use Rattle.links.specs.Copies.{choiceOf}

@@ -7,7 +7,7 @@ use Prim.Native.Nat.{ℕ}
 use Rattle.meaning.specs.Calls.{enough}
 use Rattle.meaning.specs.Sheet.{SheetOf, sheetSlices, SheetCall, gives}
 use Rattle.meaning.proofs.Calls.{sheet-exists}
-use Rattle.reading.specs.declared.Refusal.{Refusal}
+use Rattle.tokens.specs.declared.Refusal.{Refusal}
 use Rattle.sheet.specs.Printed.{Printed}
 use Rattle.calls.specs.Paper.{textOutcome}
 use Rattle.calls.specs.declared.TextAnswer.the-variants.{Written, Refused}

@@ -3,7 +3,7 @@
 use mathlib.Core.List.{List}
 use Prim.Native.Nat.{ℕ}
 use Rattle.meaning.specs.Answer.{Answer, accepted, Outcome, GraphSize, GraphMemory, FirstsMemory, IslandsMemory}
-use Rattle.reading.specs.Paper.{refusalOf}
+use Rattle.tokens.specs.Paper.{refusalOf}
 use Rattle.listing_calls.specs.declared.GraphAnswer.{GraphAnswer}
 use Rattle.listing_calls.specs.declared.GraphAnswer.the-variants.{Listed, Refused}
 

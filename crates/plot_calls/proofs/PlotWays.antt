@@ -18,9 +18,9 @@ use Rattle.lent.specs.Runs.{Wrote}
 use Rattle.lent.proofs.Runs.{sets-start}
 use Rattle.held.specs.Held.{nodes}
 use Rattle.held.specs.Kept.{Keeps, Kept, KeepsKind}
-use Rattle.reading.specs.declared.Refusal.{Refusal}
+use Rattle.tokens.specs.declared.Refusal.{Refusal}
 use Rattle.reading.specs.declared.TreeRead.{TreeRead}
-use Rattle.reading.specs.declared.Step.the-variants.{Next, Refused as StepRefused}
+use Rattle.tokens.specs.declared.Step.the-variants.{Next, Refused as StepRefused}
 use Rattle.tables.specs.Lent.{TreeLent}
 use Rattle.tables.proofs.Lent.{Given, lent-next, lent-refused}
 use Rattle.calls.specs.declared.TextAnswer.the-variants.{Written, Refused}

@@ -3,8 +3,8 @@
 use calls::TextAnswer;
 use held::Tree;
 use lent::enough;
-use reading::Step;
 use reading::Takes;
+use tokens::Step;
 ghost use mathlib.Core.Path.{_≡_};
 ghost use Rattle.plots.specs.PlotCall.{plotCall};
 ghost use Rattle.plot_calls.specs.Paper.{plotMemory, plotOutcome};

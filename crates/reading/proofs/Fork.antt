@@ -13,14 +13,14 @@ use Rattle.meaning.proofs.Sound.{Sound, sound}
 use Rattle.meaning.proofs.Ways.{gives-got, node-label, node-bad, node-deep, node-fork}
 use Rattle.held.specs.Held.{nodes}
 use Rattle.held.proofs.Laws.{twice}
-use Rattle.reading.specs.Draft.{draftBytes, seen, Draft, Written, Meets, tokenAt, TokenMeets}
-use Rattle.reading.specs.Paper.{stepAnswer}
-use Rattle.reading.specs.declared.Step.{Step}
-use Rattle.reading.specs.declared.Refusal.{Refusal}
-use Rattle.reading.specs.declared.Step.the-variants.{Next, Refused}
-use Rattle.reading.proofs.Draft.{fits-more, seen-more, draft-more, seen-open, draft-open, closed-by}
-use Rattle.reading.proofs.Meet.{Accepted, Passed, meets-refused, byte-is, token-then, token-behind}
-use Rattle.reading.proofs.Steps.{then-got, step-next, step-ends, step-passed}
+use Rattle.tokens.specs.Draft.{draftBytes, seen, Draft, Written, Meets, tokenAt, TokenMeets}
+use Rattle.tokens.specs.Paper.{stepAnswer}
+use Rattle.tokens.specs.declared.Step.{Step}
+use Rattle.tokens.specs.declared.Refusal.{Refusal}
+use Rattle.tokens.specs.declared.Step.the-variants.{Next, Refused}
+use Rattle.tokens.proofs.Draft.{fits-more, seen-more, draft-more, seen-open, draft-open, closed-by}
+use Rattle.tokens.proofs.Meet.{Accepted, Passed, meets-refused, byte-is, token-then, token-behind}
+use Rattle.tokens.proofs.Steps.{then-got, step-next, step-ends, step-passed}
 
 -- what a node that was read adds to the draft
 module _ {room : ℕ} (s : List ℕ) (p : ℕ) {node node′ : List ℕ} {marks marks′ : List Bool} {at q k : ℕ} (d : Draft node marks at room)

@@ -17,14 +17,14 @@ use Rattle.lent.proofs.Runs.{sets-start}
 use Rattle.held.specs.Held.{nodes, pre}
 use Rattle.held.specs.Labels.{labelsIn}
 use Rattle.held.proofs.Laws.{length-pre}
-use Rattle.reading.specs.Draft.{seen, Draft, Meets}
+use Rattle.tokens.specs.Draft.{seen, Draft, Meets}
 use Rattle.reading.specs.Opening.{TopMeets}
-use Rattle.reading.specs.Paper.{stepAnswer}
-use Rattle.reading.specs.declared.Step.{Step}
-use Rattle.reading.proofs.Draft.{fits-more}
+use Rattle.tokens.specs.Paper.{stepAnswer}
+use Rattle.tokens.specs.declared.Step.{Step}
+use Rattle.tokens.proofs.Draft.{fits-more}
 use Rattle.reading.proofs.Fork.{digit-is, via-label}
-use Rattle.reading.proofs.Meet.{byte-is}
-use Rattle.reading.proofs.Steps.{step-map, step-refused}
+use Rattle.tokens.proofs.Meet.{byte-is}
+use Rattle.tokens.proofs.Steps.{step-map, step-refused}
 
 -- a node that was read from the draft's start on stands there
 module _ (s : List ℕ) (p : ℕ) {node node′ : List ℕ} {marks marks′ : List Bool} {r : Step} (d : Draft node marks 0 63) (m : Meets node node′ marks′ 0 (readNode 63 s p (seen node 0)) r) where

@@ -17,15 +17,15 @@ use Rattle.lent.proofs.Runs.{sets-start}
 use Rattle.held.specs.Held.{nodes, pre}
 use Rattle.held.specs.Labels.{labelsIn}
 use Rattle.held.proofs.Laws.{length-pre, twice, some-nodes}
-use Rattle.reading.specs.Draft.{draftBytes, seen, Draft, Meets, tokenAt, TokenMeets}
+use Rattle.tokens.specs.Draft.{draftBytes, seen, Draft, Meets, tokenAt, TokenMeets}
 use Rattle.reading.specs.Opening.{TopMeets, Halves, HasHalves}
-use Rattle.reading.specs.declared.Step.{Step}
-use Rattle.reading.specs.declared.Refusal.{Refusal}
-use Rattle.reading.specs.declared.Step.the-variants.{Next, Refused}
-use Rattle.reading.proofs.Draft.{seen-open, draft-open, open-room, closed-by}
+use Rattle.tokens.specs.declared.Step.{Step}
+use Rattle.tokens.specs.declared.Refusal.{Refusal}
+use Rattle.tokens.specs.declared.Step.the-variants.{Next, Refused}
+use Rattle.tokens.proofs.Draft.{seen-open, draft-open, open-room, closed-by}
 use Rattle.reading.proofs.Fork.{next-draft, next-seen, next-in}
-use Rattle.reading.proofs.Meet.{Accepted, Passed, token-then}
-use Rattle.reading.proofs.Steps.{then-got, step-got, step-next, step-ends, step-passed}
+use Rattle.tokens.proofs.Meet.{Accepted, Passed, token-then}
+use Rattle.tokens.proofs.Steps.{then-got, step-got, step-next, step-ends, step-passed}
 
 -- ---- the top's first node was asked for
 module _ (s : List ℕ) (p : ℕ) {node node₁ : List ℕ} {marks marks₁ : List Bool} {r₁ : Step} (d : Draft node marks 0 63)

@@ -23,17 +23,18 @@ use Rattle.held.specs.Kept.{kindOf, Keeps, Kept, KeepsKind}
 use Rattle.held.specs.Labels.{labelsIn}
 use Rattle.held.specs.declared.Tree.{Tree}
 use Rattle.held.proofs.Laws.{few-nodes}
-use Rattle.reading.specs.Draft.{tooLarge, draftBytes, Draft, tokenAt, TokenMeets}
-use Rattle.reading.specs.Opening.{MarkMeets, TopMeets}
-use Rattle.reading.specs.Paper.{goesOn, stepAnswer, StepMeets}
+use Rattle.tokens.specs.Draft.{tooLarge, draftBytes, Draft, tokenAt, TokenMeets}
+use Rattle.reading.specs.Opening.{TopMeets}
+use Rattle.tokens.specs.Mark.{MarkMeets}
+use Rattle.tokens.specs.Paper.{goesOn, stepAnswer, StepMeets}
 use Rattle.reading.specs.Whole.{TreeMeets}
-use Rattle.reading.specs.declared.Step.{Step}
-use Rattle.reading.specs.declared.Refusal.{Refusal}
-use Rattle.reading.specs.declared.marks.Marked.{Marked}
+use Rattle.tokens.specs.declared.Step.{Step}
+use Rattle.tokens.specs.declared.Refusal.{Refusal}
+use Rattle.tokens.specs.declared.marks.Marked.{Marked}
 use Rattle.reading.specs.declared.TreeRead.{TreeRead}
-use Rattle.reading.specs.declared.Step.the-variants.{Next, Refused}
-use Rattle.reading.proofs.Meet.{token-then}
-use Rattle.reading.proofs.Steps.{then-got, differs-ends, differs-none, Accepts, step-got, step-refused, step-next, step-ends, step-passed}
+use Rattle.tokens.specs.declared.Step.the-variants.{Next, Refused}
+use Rattle.tokens.proofs.Meet.{token-then}
+use Rattle.tokens.proofs.Steps.{then-got, differs-ends, differs-none, Accepts, step-got, step-refused, step-next, step-ends, step-passed}
 
 -- a draft of which nothing is read yet
 abbrev pub blank-draft : List ℕ

@@ -1,4 +1,2 @@
-pub mod Draft
 pub mod Opening
-pub mod Paper
 pub mod Whole

@@ -1,4 +1,4 @@
--- What reading a mark and the top of a tree answers, and an unrooted top whose first two nodes are read.
+-- What reading the top of a tree answers, and an unrooted top whose first two nodes are read.
 -- Assumes nothing.
 use mathlib.Core.Path.{_≡_}
 use mathlib.Core.Bool.{Bool}
@@ -8,23 +8,12 @@ use lib.Seq.{sets}
 use lib.ListN.{length, set}
 use Rattle.meaning.specs.Limits.{maxOpen}
 use Rattle.meaning.specs.Tree.{Tree, labels}
-use Rattle.meaning.specs.Kind.{Kind}
-use Rattle.meaning.specs.Reading.{Read, got, exactly}
+use Rattle.meaning.specs.Reading.{Read}
 use Rattle.lent.specs.Runs.{Stands}
 use Rattle.held.specs.Held.{nodes, pre}
-use Rattle.held.specs.Kept.{kindOf}
-use Rattle.reading.specs.Draft.{seen, Draft}
-use Rattle.reading.specs.Paper.{StepMeets}
-use Rattle.reading.specs.declared.Step.{Step}
-use Rattle.reading.specs.declared.marks.Marked.{Marked}
-
--- the byte b alone, with no blank before it
-abbrev pub exactlyAt : ℕ → List ℕ → ℕ → Read (Unit {0})
-exactlyAt b s p = exactly b s p (λ q. got tt q)
-
--- of a mark the kind is kept, and it has no nodes
-abbrev pub MarkMeets : Marked → Read Kind → Type 0
-MarkMeets r g = StepMeets (λ k. 0) (λ k. kindOf (r .kind) ≡ k) (r .step) g
+use Rattle.tokens.specs.Draft.{seen, Draft}
+use Rattle.tokens.specs.Paper.{StepMeets}
+use Rattle.tokens.specs.declared.Step.{Step}
 
 -- an accepted top stands at the draft's start, and reading goes on behind it; a refusal is the answer; the draft keeps its size
 pub record TopMeets (node node′ : List ℕ) (g : Read Tree) (r : Step) : Type 0 where

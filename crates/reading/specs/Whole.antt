@@ -4,7 +4,7 @@ use Rattle.meaning.specs.Kind.{Kinded, Takes as TakesOf, either, rooted-only}
 use Rattle.meaning.specs.Reading.{Read}
 use Rattle.held.specs.Held.{nodes}
 use Rattle.held.specs.Kept.{KeepsKind}
-use Rattle.reading.specs.Paper.{StepMeets}
+use Rattle.tokens.specs.Paper.{StepMeets}
 use Rattle.reading.specs.declared.Takes.{Takes}
 use Rattle.reading.specs.declared.Takes.the-variants.{Either, RootedOnly}
 use Rattle.reading.specs.declared.TreeRead.{TreeRead}

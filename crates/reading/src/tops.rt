@@ -1,17 +1,17 @@
 // Reads the top of a tree: a rooted tree's is a node, an unrooted one's a label, or a bracket with two labels or three nodes.
 // Three nodes a, b and c are held as the fork of a and the fork of b and c.
-use super::Marks;
-use super::Refusal;
-use super::Step;
 use held::Kind;
 use held::Tree;
+use tokens::Marks;
+use tokens::Refusal;
+use tokens::Step;
 ghost use Prim.Native.Nat.{_-_};
 ghost use Rattle.meaning.specs.Kind.{unrooted};
 ghost use Rattle.meaning.specs.Tree.{Tree as Topology};
 ghost use Rattle.meaning.specs.Limits.{maxOpen};
 ghost use Rattle.meaning.specs.Reading.{readNode, thirdAt, threeAt, topAt};
 ghost use Rattle.held.specs.Kept.{kindOf};
-ghost use Rattle.reading.specs.Draft.{Draft};
+ghost use Rattle.tokens.specs.Draft.{Draft};
 ghost use Rattle.reading.specs.Opening.{TopMeets, Halves, HasHalves};
 
 // Brackets that may open inside that of a top.
@@ -33,14 +33,14 @@ fn read_third(
         → TopMeets (now (node .entry)) (now (node .exit)) (thirdAt (readNode (maxOpen - 1) (now (s .entry))) (now (s .entry)) a b from) r) ⌝ }
 {
     if end == 4 {
-        let q = super::skip_blanks(s, from);
-        if super::byte_at(s, q) == b')' {
+        let q = tokens::skip_blanks(s, from);
+        if tokens::byte_at(s, q) == b')' {
             node[2] = node[3];
             node[0] = super::fork_byte(0, 3);
             return Step::Next(q + 1, 3);
         }
     }
-    let comma = super::expect_byte(s, from, b',', end);
+    let comma = tokens::expect_byte(s, from, b',', end);
     let Step::Next(p, at) = comma else {
         return comma;
     };
@@ -50,7 +50,7 @@ fn read_third(
     };
     node[half] = super::fork_byte(half, last);
     node[0] = super::fork_byte(0, last);
-    super::expect_byte(s, p2, b')', last)
+    tokens::expect_byte(s, p2, b')', last)
 }
 
 // The rest of an unrooted tree's top, behind its bracket.
@@ -64,7 +64,7 @@ fn read_three(s: &[u8], from: usize, node: &mut [u8], marks: &mut Marks) -> Step
     let Step::Next(p, end) = first else {
         return first;
     };
-    let comma = super::expect_byte(s, p, b',', end);
+    let comma = tokens::expect_byte(s, p, b',', end);
     let Step::Next(q, half) = comma else {
         return comma;
     };
@@ -81,15 +81,15 @@ fn read_unrooted(s: &[u8], from: usize, node: &mut [u8], marks: &mut Marks) -> S
     requires { ⌜ Draft (now node) (now marks) 0 maxOpen ⌝ }
     ensures { λ r. ⌜ TopMeets (now (node .entry)) (now (node .exit)) (topAt unrooted (now (s .entry)) from) r ⌝ }
 {
-    let q = super::skip_blanks(s, from);
-    let b = super::byte_at(s, q);
-    if super::is_digit(b) {
-        return super::read_label(s, q, node, 0, marks);
+    let q = tokens::skip_blanks(s, from);
+    let b = tokens::byte_at(s, q);
+    if tokens::is_digit(b) {
+        return tokens::read_label(s, q, node, 0, marks);
     }
     if b == b'(' {
         return read_three(s, q + 1, node, marks);
     }
-    super::refuse(Refusal::WRONG_BYTE, q)
+    tokens::refuse(Refusal::WRONG_BYTE, q)
 }
 
 // The top of a tree of this kind, as the draft's first nodes.

@@ -1,14 +1,14 @@
 // Reads a tree, and a text of exactly one tree of a kind that is taken.
-use super::Marks;
-use super::Refusal;
-use super::Run;
-use super::Step;
 use super::Takes;
 use super::TreeRead;
-use super::marks::read_mark;
 use super::tops::read_top;
 use held::Kind;
 use held::Tree;
+use tokens::Marks;
+use tokens::Refusal;
+use tokens::Run;
+use tokens::Step;
+use tokens::read_mark;
 ghost use mathlib.Core.Path.{_≡_};
 ghost use Rattle.meaning.specs.Tree.{Tree as Topology};
 ghost use Rattle.meaning.specs.Unrooted.{standing};
@@ -70,7 +70,7 @@ pub fn read_at(s: &[u8], from: usize) -> TreeRead
         return refused(top);
     };
     TreeRead {
-        step: super::expect_byte(s, q, b';', nodes),
+        step: tokens::expect_byte(s, q, b';', nodes),
         tree: standing(Tree::canonical(&node), kind),
     }
 }
@@ -88,11 +88,11 @@ pub fn read_tree(s: &[u8], takes: Takes) -> TreeRead
     let kind = tree.kind;
     let line = untaken(takes, kind);
     if line != 0 {
-        return refused(super::refuse(line, p - 1));
+        return refused(tokens::refuse(line, p - 1));
     }
-    let end = super::skip_blanks(s, p);
+    let end = tokens::skip_blanks(s, p);
     if end < s.len() {
-        return refused(super::refuse(Refusal::WRONG_BYTE, end));
+        return refused(tokens::refuse(Refusal::WRONG_BYTE, end));
     }
     read
 }

@@ -5,8 +5,8 @@ use mathlib.Core.List.{List}
 use Prim.Native.Nat.{ℕ, zero, suc, _≤_}
 use native.Mathlib.Omega.{arith}
 use Rattle.meaning.specs.Answer.{Answer, accepted, refusal, Outcome}
-use Rattle.reading.specs.declared.Refusal.{Refusal}
-use Rattle.reading.specs.Paper.{refusalOf}
+use Rattle.tokens.specs.declared.Refusal.{Refusal}
+use Rattle.tokens.specs.Paper.{refusalOf}
 use Rattle.families.specs.SupportCall.{SupportSize, SupportMemory, supportCall}
 use Rattle.replies.specs.Coded.{Numbered}
 use Rattle.replies.specs.LongCoded.{supportValue, supportCoded}

@@ -4,8 +4,8 @@ use mathlib.Core.Path.{_≡_, refl, sym, ap, subst, _∙_}
 use Prim.Native.Nat.{ℕ, zero, suc, _≤_}
 use native.Mathlib.Omega.{arith}
 use Rattle.meaning.specs.Answer.{Answer, refusal, Outcome}
-use Rattle.reading.specs.declared.Refusal.{Refusal}
-use Rattle.reading.specs.Paper.{refusalOf}
+use Rattle.tokens.specs.declared.Refusal.{Refusal}
+use Rattle.tokens.specs.Paper.{refusalOf}
 use Rattle.replies.specs.Coded.{coded, Numbered}
 use Rattle.replies.specs.declared.Reply.{Reply}
 

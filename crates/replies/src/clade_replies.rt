@@ -1,6 +1,6 @@
 // The answers of the calls on clades, with a third number.
 use clade_calls::SupportAnswer;
-use reading::Refusal;
+use tokens::Refusal;
 ghost use mathlib.Core.Path.{_≡_};
 ghost use Rattle.clade_calls.specs.Paper.{supportAnswer};
 ghost use Rattle.replies.specs.Coded.{Numbered};

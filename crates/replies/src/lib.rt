@@ -11,7 +11,7 @@ pub use index_replies::add_reply;
 pub use index_replies::remove_reply;
 use links::Copies;
 use listing_calls::GraphAnswer;
-use reading::Refusal;
+use tokens::Refusal;
 ghost use mathlib.Core.Path.{_≡_};
 ghost use Rattle.links.specs.Copies.{choiceOf};
 ghost use Rattle.calls.specs.Paper.{textAnswer, pairAnswer, tableAnswer};

@@ -26,10 +26,10 @@ use Rattle.lent.specs.Runs.{Wrote, Says}
 use Rattle.held.specs.Held.{nodes}
 use Rattle.held.specs.Kept.{Keeps, Kept, KeepsKind, KeptKindRoom}
 use Rattle.held.specs.declared.Tree.{Tree}
-use Rattle.reading.specs.Paper.{refusalOf}
-use Rattle.reading.specs.declared.Refusal.{Refusal}
+use Rattle.tokens.specs.Paper.{refusalOf}
+use Rattle.tokens.specs.declared.Refusal.{Refusal}
 use Rattle.reading.specs.declared.TreeRead.{TreeRead}
-use Rattle.reading.specs.declared.Step.the-variants.{Next, Refused as StepRefused}
+use Rattle.tokens.specs.declared.Step.the-variants.{Next, Refused as StepRefused}
 use Rattle.tables.specs.Lent.{TreeLent}
 use Rattle.tables.proofs.Lent.{Given, lent-next, lent-refused}
 use Rattle.pairs.specs.Pair.{Tested}

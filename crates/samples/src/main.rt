@@ -11,7 +11,7 @@ use calls::TextAnswer;
 use held::Table;
 use held::Tree;
 use libc::STDOUT_FILENO;
-use reading::Refusal;
+use tokens::Refusal;
 
 fn print(text: &[u8]) {
     io::write_all(STDOUT_FILENO, text);

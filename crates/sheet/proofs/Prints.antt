@@ -12,8 +12,8 @@ use Rattle.lent.specs.Runs.{Wrote}
 use Rattle.lent.proofs.Runs.{sets-start, wrote-length}
 use Rattle.held.specs.Kept.{KeepsTrees}
 use Rattle.tables.specs.Lent.{TableLent}
-use Rattle.reading.specs.declared.Refusal.{Refusal}
-use Rattle.reading.specs.declared.Step.the-variants.{Next, Refused}
+use Rattle.tokens.specs.declared.Refusal.{Refusal}
+use Rattle.tokens.specs.declared.Step.the-variants.{Next, Refused}
 use Rattle.tables.specs.declared.TableRead.{TableRead}
 use Rattle.tables.proofs.Lent.{Given, lent-next, lent-refused}
 use Rattle.sheet.specs.Printed.{TableFits, ShownAll, Printed}

@@ -1,7 +1,7 @@
 // The sheet of islands: a line for each island of a table's trees.
 use held::Table;
-use reading::Step;
 use reading::Takes;
+use tokens::Step;
 ghost use lib.ListN.{length, take};
 ghost use Rattle.meaning.specs.Limits.{islandSheetBytes};
 ghost use Rattle.meaning.specs.IslandSheet.{islandLines, IslandSheetOf};

@@ -13,11 +13,11 @@ use Rattle.meaning.specs.Kind.{Kinded, Trees, asTrees}
 use Rattle.meaning.specs.Answer.{Answer, accepted, refusal, onward}
 use Rattle.meaning.specs.Calls.{lent, limited, answered}
 use Rattle.meaning.proofs.Logic.{clash}
-use Rattle.reading.specs.Paper.{refusalOf, goesOn, stepAnswer, StepMeets, goes-on, refuses}
-use Rattle.reading.specs.declared.Refusal.{Refusal}
-use Rattle.reading.specs.declared.Step.{Step}
-use Rattle.reading.specs.declared.Step.the-variants.{Next, Refused as StepRefused}
-use Rattle.reading.proofs.Steps.{going-is}
+use Rattle.tokens.specs.Paper.{refusalOf, goesOn, stepAnswer, StepMeets, goes-on, refuses}
+use Rattle.tokens.specs.declared.Refusal.{Refusal}
+use Rattle.tokens.specs.declared.Step.{Step}
+use Rattle.tokens.specs.declared.Step.the-variants.{Next, Refused as StepRefused}
+use Rattle.tokens.proofs.Steps.{going-is}
 use Rattle.tables.specs.Lent.{withheld, LentMeets, accepts, denies, TableLent}
 use Rattle.tables.specs.Table.{TableMeets}
 use Rattle.tables.specs.declared.TableRead.{TableRead}

@@ -16,14 +16,14 @@ use Rattle.meaning.proofs.Ways.{table-ends, table-full, table-next}
 use Rattle.held.specs.Kept.{kindOf, KeepsKind, heldAt, KeepsTrees, FitsBehind, behind, Adds}
 use Rattle.held.specs.declared.Table.{Table}
 use Rattle.held.specs.declared.Tree.{Tree}
-use Rattle.reading.specs.Paper.{goesOn, stepAnswer, StepMeets}
+use Rattle.tokens.specs.Paper.{goesOn, stepAnswer, StepMeets}
 use Rattle.reading.specs.Whole.{TreeMeets}
 use Rattle.tables.specs.Table.{TableMeets}
-use Rattle.reading.specs.declared.Refusal.{Refusal}
+use Rattle.tokens.specs.declared.Refusal.{Refusal}
 use Rattle.reading.specs.declared.TreeRead.{TreeRead}
-use Rattle.reading.specs.declared.Step.the-variants.{Next, Refused}
+use Rattle.tokens.specs.declared.Step.the-variants.{Next, Refused}
 use Rattle.tables.specs.declared.TableRead.{TableRead}
-use Rattle.reading.proofs.Steps.{then-got, differs-ends, differs-none, step-got, step-refused, step-next, step-ends}
+use Rattle.tokens.proofs.Steps.{then-got, differs-ends, differs-none, step-got, step-refused, step-next, step-ends}
 
 -- ---- the trees of a table
 pub as-length : (xs : List Kinded) → length (asTrees xs .trees) ≡ length xs

@@ -10,8 +10,8 @@ use Rattle.meaning.specs.Kind.{Kinded, Trees}
 use Rattle.meaning.specs.Answer.{Answer, accepted, refusal}
 use Rattle.held.specs.Held.{nodes}
 use Rattle.held.specs.Kept.{KeepsKind, KeepsTrees}
-use Rattle.reading.specs.Paper.{goesOn, stepAnswer}
-use Rattle.reading.specs.declared.Step.{Step}
+use Rattle.tokens.specs.Paper.{goesOn, stepAnswer}
+use Rattle.tokens.specs.declared.Step.{Step}
 use Rattle.reading.specs.declared.TreeRead.{TreeRead}
 use Rattle.tables.specs.declared.TableRead.{TableRead}
 

@@ -5,7 +5,7 @@ use lib.ListN.{length}
 use Rattle.meaning.specs.Kind.{Kinded, asTrees}
 use Rattle.meaning.specs.Reading.{Read}
 use Rattle.held.specs.Kept.{KeepsTrees}
-use Rattle.reading.specs.Paper.{StepMeets}
+use Rattle.tokens.specs.Paper.{StepMeets}
 use Rattle.tables.specs.declared.TableRead.{TableRead}
 
 -- the trees, kept, and their number

@@ -6,16 +6,16 @@ use held::Table;
 use held::Tree;
 pub use limited::read_lent;
 pub use limited::read_lent_table;
-use reading::Refusal;
-use reading::Step;
 use reading::Takes;
+use tokens::Refusal;
+use tokens::Step;
 ghost use mathlib.Core.Path.{_≡_};
 ghost use mathlib.Core.List.{List};
 ghost use Rattle.meaning.specs.Kind.{Kinded, asTrees};
 ghost use Rattle.meaning.specs.Reading.{sameKind, unlike as unlikeOf, likeFirst, readTable};
 ghost use Rattle.meaning.specs.Answer.{refusal};
 ghost use Rattle.held.specs.Kept.{kindOf, Kept, KeepsKind, KeptAll, KeepsTrees};
-ghost use Rattle.reading.specs.Paper.{stepAnswer};
+ghost use Rattle.tokens.specs.Paper.{stepAnswer};
 ghost use Rattle.reading.specs.Whole.{takesOf};
 ghost use Rattle.tables.specs.Table.{TableMeets};
 
@@ -76,7 +76,7 @@ fn refuse(number: u8, place: usize, table: Table) -> TableRead
     ensures { λ r. ⌜ stepAnswer (r .step) ≡ refusal number 0 place ⌝ }
 {
     TableRead {
-        step: reading::refuse(number, place),
+        step: tokens::refuse(number, place),
         table,
     }
 }
@@ -86,7 +86,7 @@ pub fn read_table(s: &[u8], takes: Takes) -> TableRead
     ensures { λ r. ⌜ TableMeets r (readTable (takesOf takes) (now (s .entry))) ⌝ }
 {
     let mut table = Table::empty();
-    let mut at = reading::skip_blanks(s, 0);
+    let mut at = tokens::skip_blanks(s, 0);
     while at < s.len() {
         if table.len == Table::MAX_TREES {
             return refuse(Refusal::TOO_MANY_TREES, at, table);
@@ -101,7 +101,7 @@ pub fn read_table(s: &[u8], takes: Takes) -> TableRead
             return refuse(line, p - 1, table);
         }
         table = table.push(read.tree);
-        at = reading::skip_blanks(s, p);
+        at = tokens::skip_blanks(s, p);
     }
     TableRead {
         step: Step::Next(at, table.len),

@@ -2,9 +2,9 @@
 use super::TableRead;
 use held::Table;
 use held::Tree;
-use reading::Refusal;
 use reading::Takes;
 use reading::TreeRead;
+use tokens::Refusal;
 ghost use mathlib.Core.Path.{_≡_};
 ghost use lib.ListN.{length};
 ghost use Rattle.meaning.specs.Reading.{readTree};
@@ -32,7 +32,7 @@ pub fn read_lent(s: &[u8], fits: bool, takes: Takes) -> TreeRead
     let line = withheld(s, fits);
     if line != 0 {
         return TreeRead {
-            step: reading::refuse(line, 0),
+            step: tokens::refuse(line, 0),
             tree: Tree::empty(),
         };
     }
@@ -46,7 +46,7 @@ pub fn read_lent_table(s: &[u8], fits: bool, takes: Takes) -> TableRead
     let line = withheld(s, fits);
     if line != 0 {
         return TableRead {
-            step: reading::refuse(line, 0),
+            step: tokens::refuse(line, 0),
             table: Table::empty(),
         };
     }

@@ -8,10 +8,10 @@ use lib.Dec.{lit<}
 use lib.ListN.{length, set, length-set}
 use Rattle.meaning.specs.Reading.{isBlank, skip, readNode}
 use Rattle.meaning.proofs.Scan.{inside, past-ge}
-use Rattle.reading.specs.Draft.{seen, Meets, tokenAt}
-use Rattle.reading.proofs.Draft.{less-room, open-room, draft-open}
-use Rattle.reading.proofs.Meet.{Passed}
-use Rattle.reading.proofs.Steps.{step-next}
+use Rattle.tokens.specs.Draft.{seen, Meets, tokenAt}
+use Rattle.tokens.proofs.Draft.{less-room, open-room, draft-open}
+use Rattle.tokens.proofs.Meet.{Passed}
+use Rattle.tokens.proofs.Steps.{step-next}
 use Rattle.reading.proofs.Fork.{fork-no-first, fork-no-comma, second-behind, second-draft, fork-no-second, close-room, fork-closed, via-label, via-deep, via-fork, via-wrong}
 use Prim.Native.Nat.{ℕ, _+_, _-_, _*_, _≤_, _<_}
 use borrow.Fn.Kinds.{In}
@@ -22,13 +22,13 @@ use Rattle.reading.proofs.+read_fork+read_node.Lts-read_fork as read-fo
 use Rattle.reading.proofs.read_node.Reads as read-node
 use Rattle.reading.proofs.read_node.Kinds as read-node-kinds
 use Rattle.reading.proofs.+read_fork+read_node.Lts-read_node as read-node-lts
-use Rattle.reading.proofs.byte_at.Reads as byte-at-reads
-use Rattle.reading.proofs.expect_byte.Reads as expect-byte-reads
+use Rattle.tokens.proofs.byte_at.Reads as byte-at-reads
+use Rattle.tokens.proofs.expect_byte.Reads as expect-byte-reads
 use Rattle.reading.proofs.fork_byte.Reads as fork-byte-reads
-use Rattle.reading.proofs.is_digit.Reads as is-digit-reads
-use Rattle.reading.proofs.read_label.Reads as read-label-reads
-use Rattle.reading.proofs.refuse.Reads as refuse-reads
-use Rattle.reading.proofs.skip_blanks.Reads as skip-blanks-reads
+use Rattle.tokens.proofs.is_digit.Reads as is-digit-reads
+use Rattle.tokens.proofs.read_label.Reads as read-label-reads
+use Rattle.tokens.proofs.refuse.Reads as refuse-reads
+use Rattle.tokens.proofs.skip_blanks.Reads as skip-blanks-reads
 use Rattle.reading.proofs.+read_fork+read_node.{statement}
 use Rattle.reading.proofs.+read_fork+read_node.Tie.{close}
 

@@ -9,9 +9,9 @@ use borrow.Author.Needs.{needs}
 use lib.Dec.{lit<}
 use Rattle.meaning.specs.Reading.{byteAt, skip}
 use Rattle.meaning.proofs.Scan.{inside}
-use Rattle.reading.specs.Draft.{tokenAt}
-use Rattle.reading.proofs.Meet.{Passed, byte-is}
-use Rattle.reading.proofs.Steps.{step-next}
+use Rattle.tokens.specs.Draft.{tokenAt}
+use Rattle.tokens.proofs.Meet.{Passed, byte-is}
+use Rattle.tokens.proofs.Steps.{step-next}
 use Rattle.reading.proofs.Three.{third-closed, third-draft, half-room, top-room, half-in-third, top-in-third, third-no-comma, third-refused, third-got}
 use Rattle.reading.proofs.tops.read_third.Statement.{statement}
 use Rattle.reading.proofs.tops.read_third.Tie as tie

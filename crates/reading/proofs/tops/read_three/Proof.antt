@@ -4,10 +4,10 @@ use mathlib.Core.List.{List}
 use Prim.Native.Nat.{ℕ}
 use native.Mathlib.Omega.{arith}
 use borrow.Author.Needs.{needs}
-use Rattle.reading.specs.Draft.{tokenAt}
-use Rattle.reading.proofs.Draft.{draft-open}
-use Rattle.reading.proofs.Meet.{Passed}
-use Rattle.reading.proofs.Steps.{step-next}
+use Rattle.tokens.specs.Draft.{tokenAt}
+use Rattle.tokens.proofs.Draft.{draft-open}
+use Rattle.tokens.proofs.Meet.{Passed}
+use Rattle.tokens.proofs.Steps.{step-next}
 use Rattle.reading.proofs.Three.{length-first, three-no-first, three-no-comma, half-in, second-draft, three-no-second, has-halves, three-rest}
 use Rattle.reading.proofs.tops.read_three.Statement.{statement}
 use Rattle.reading.proofs.tops.read_three.Tie as tie

@@ -6,7 +6,7 @@ use Prim.Native.Nat.{ℕ}
 use native.Mathlib.Omega.{arith}
 use borrow.Author.Needs.{needs}
 use Rattle.meaning.specs.Kind.{Takes}
-use Rattle.reading.specs.Paper.{stepAnswer}
+use Rattle.tokens.specs.Paper.{stepAnswer}
 use Rattle.reading.specs.Whole.{takesOf}
 use Rattle.reading.proofs.Whole.{one-refused, one-place, one-untaken, one-more, one-done}
 use Rattle.reading.proofs.trees.read_tree.Statement.{statement}

@@ -1,0 +1,4 @@
+pub mod Draft
+pub mod Marking
+pub mod Meet
+pub mod Steps
