@@ -13,7 +13,7 @@ use Rattle.lent.specs.Runs.{Wrote}
 use Rattle.lent.proofs.Runs.{sets-at, wrote-length}
 use Rattle.held.specs.Kept.{KeepsAll}
 use Rattle.held.specs.declared.Table.{Table}
-use Rattle.links.specs.Links.{linkBytes}
+use Rattle.sharing.specs.Links.{linkBytes}
 use Rattle.links.specs.Copies.{FirstsRoom}
 use Rattle.graph.specs.Copies.{GraphRoom}
 

@@ -16,7 +16,7 @@ use Rattle.meaning.proofs.Listing.{row-step, pairsOf-lists, listing-iff}
 use Rattle.meaning.proofs.Counts.{flat-append, listing-few}
 use Rattle.lent.specs.Runs.{Wrote}
 use Rattle.lent.proofs.Runs.{wrote-length, wrote-more}
-use Rattle.links.specs.Links.{LinkedIn, linked?}
+use Rattle.sharing.specs.Links.{LinkedIn, linked?}
 use Rattle.graph.specs.Graph.{tally, PairRoom, PairAdded, Listed, PairsRoom, ListRoom, Graph}
 use Rattle.graph.proofs.Stores.{wrote-pair, tally-length, tally-append, more-le, tally-le, cleared-at, counts-written}
 

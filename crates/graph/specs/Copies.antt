@@ -15,7 +15,7 @@ use Rattle.held.specs.declared.Table.{Table}
 use Rattle.links.specs.Link.{Linked}
 use Rattle.links.specs.declared.Link.{Link}
 use Rattle.links.specs.declared.Link.the-variants.{Move, UnrootedMove}
-use Rattle.links.specs.Links.{OfTrees}
+use Rattle.sharing.specs.Links.{OfTrees}
 use Rattle.links.specs.Copies.{choiceOf}
 use Rattle.links.specs.declared.Copies.{Copies}
 use Rattle.graph.specs.Graph.{ListRoom, Graph}

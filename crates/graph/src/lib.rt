@@ -6,13 +6,13 @@ use held::Table;
 pub use islands::list_islands;
 use links::Copies;
 use links::Link;
-use links::Links;
+use sharing::Links;
 ghost use mathlib.Core.Path.{_≡_};
 ghost use Prim.Native.Nat.{_≤_, _<_};
 ghost use Rattle.meaning.specs.Limits.{maxTrees};
 ghost use Rattle.meaning.specs.Loops.{row};
 ghost use Rattle.held.specs.Kept.{kindOf};
-ghost use Rattle.links.specs.Links.{LinkedIn, linked?};
+ghost use Rattle.sharing.specs.Links.{LinkedIn, linked?};
 ghost use Rattle.graph.specs.Graph.{slices, PairRoom, PairAdded, PairsRoom, Listed, ListRoom, Graph};
 ghost use Rattle.graph.specs.Copies.{GraphRoom, GraphWritten, moveOf, MovesRoom, MovesWritten};
 

@@ -11,7 +11,7 @@ use lib.ListN.{length, set}
 use lib.Seq.{getD-set-same, getD-set-other}
 use mir.Val.{boolByte}
 use Rattle.lent.specs.Runs.{Says}
-use Rattle.links.specs.Links.{LinkedIn}
+use Rattle.sharing.specs.Links.{LinkedIn}
 
 -- the bytes of the first places show which of k positions are linked by L
 abbrev pub ShowsTo : ℕ → List ℕ → ℕ → (ℕ → ℕ → Type 0) → Type 0

@@ -23,8 +23,9 @@ use Rattle.links.specs.Link.{Linked, Tried}
 use Rattle.links.specs.declared.Link.{Link}
 use Rattle.links.specs.declared.Link.the-variants.{Move, UnrootedMove, Interchange}
 use Rattle.links.specs.declared.Test.the-variants.{Respun, Interchanged}
-use Rattle.links.specs.Links.{LinkedIn, Shows}
-use Rattle.links.specs.Copies.{linkOf, FirstsNoted, FirstsRoom, NoneLinked, FirstsLinked, TriedLinked, TreesLinked, CopyRoom}
+use Rattle.sharing.specs.Links.{LinkedIn, Shows}
+use Rattle.sharing.specs.Firsts.{FirstsNoted}
+use Rattle.links.specs.Copies.{linkOf, FirstsRoom, NoneLinked, FirstsLinked, TriedLinked, TreesLinked, CopyRoom}
 use Rattle.links.specs.declared.Copies.{Copies}
 use Rattle.links.specs.declared.Copies.the-variants.{Merged, KeptApart}
 

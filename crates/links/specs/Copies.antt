@@ -8,13 +8,14 @@ use Prim.Native.Nat.{ℕ, min, max, _+_, _*_, _≤_, _<_}
 use lib.Dec.{eqb}
 use lib.ListN.{length, getD}
 use Rattle.meaning.specs.Limits.{maxTrees}
-use Rattle.meaning.specs.Copies.{Choice, merged, kept-apart, firstOf, LinkedBy}
+use Rattle.meaning.specs.Copies.{Choice, merged, kept-apart, LinkedBy}
 use Rattle.held.specs.Kept.{KeptAll}
 use Rattle.held.specs.declared.Table.{Table}
+use Rattle.sharing.specs.Firsts.{FirstsNoted}
+use Rattle.sharing.specs.Links.{linkBytes, LinkedIn, Shows, OfTrees}
 use Rattle.links.specs.Link.{Linked, Tried}
 use Rattle.links.specs.declared.Link.{Link}
 use Rattle.links.specs.declared.Test.{Test}
-use Rattle.links.specs.Links.{linkBytes, LinkedIn, Shows, OfTrees}
 use Rattle.links.specs.declared.Copies.{Copies}
 use Rattle.links.specs.declared.Copies.the-variants.{Merged, KeptApart}
 
@@ -22,10 +23,6 @@ use Rattle.links.specs.declared.Copies.the-variants.{Merged, KeptApart}
 abbrev pub choiceOf : Copies → Choice
 choiceOf Merged = merged
 choiceOf KeptApart = kept-apart
-
--- `firsts` begins with the first position of each tree's topology
-abbrev pub FirstsNoted : Table → List ℕ → Type 0
-FirstsNoted table firsts = OfTrees table (λ ts. (i : ℕ) → i < length ts → getD firsts i 0 ≡ firstOf ts i)
 
 -- the table keeps some trees, whose firsts are noted, and there is a byte for each two positions
 pub record FirstsRoom (table : Table) (firsts links : List ℕ) : Type 0 where

@@ -1,4 +1,2 @@
 pub mod Copies
-pub mod Entries
 pub mod Link
-pub mod Links

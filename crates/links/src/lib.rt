@@ -5,20 +5,14 @@ pub mod tried;
 
 use forests::link_moves;
 use held::Table;
+use sharing::Links;
 use tried::link_tried;
 ghost use mathlib.Core.Path.{_≡_};
 ghost use Prim.Native.Nat.{_<_};
 ghost use lib.ListN.{getD};
 ghost use Rattle.meaning.specs.Limits.{maxTrees};
-ghost use Rattle.links.specs.Links.{Shows};
+ghost use Rattle.sharing.specs.Links.{Shows};
 ghost use Rattle.links.specs.Copies.{linkOf, FirstsRoom, NoneLinked, FirstsLinked, CopyRoom, TreesLinked};
-
-// A byte for each two positions, that of row i and column j at i * MAX_TREES + j: 1 where i and j are linked.
-pub struct Links {}
-
-impl Links {
-    pub const SIZE: usize = Table::MAX_TREES * Table::MAX_TREES;
-}
 
 // What links two trees.
 pub enum Link {

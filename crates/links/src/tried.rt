@@ -1,8 +1,8 @@
 // Links of first positions by a test that each two of them are put to.
-use super::Links;
 use super::Test;
 use held::Table;
 use held::Tree;
+use sharing::Links;
 ghost use mathlib.Core.Path.{_≡_};
 ghost use mathlib.Core.Logic.{_⊎_};
 ghost use mathlib.Core.Bool.{true, _&&_};

@@ -21,7 +21,7 @@ use Rattle.held.specs.Kept.{KeptAll, KeepsTrees}
 use Rattle.tokens.specs.declared.Refusal.{Refusal}
 use Rattle.tokens.specs.declared.Step.the-variants.{Next, Refused as StepRefused}
 use Rattle.tables.specs.declared.TableRead.{TableRead}
-use Rattle.links.specs.Links.{OfTrees}
+use Rattle.sharing.specs.Links.{OfTrees}
 use Rattle.links.specs.Copies.{choiceOf}
 use Rattle.links.specs.declared.Copies.{Copies}
 use Rattle.graph.specs.Graph.{ListRoom, Graph}

@@ -15,7 +15,7 @@ ghost use Rattle.meaning.specs.Listing.{At};
 ghost use Rattle.meaning.specs.Calls.{InterchangeCall, ChoosingCall, GraphCall, IslandsCall};
 ghost use Rattle.meaning.specs.Sheet.{SheetCall};
 ghost use Rattle.held.specs.Kept.{KeptAll};
-ghost use Rattle.links.specs.Links.{OfTrees};
+ghost use Rattle.sharing.specs.Links.{OfTrees};
 ghost use Rattle.links.specs.Copies.{choiceOf};
 ghost use Rattle.graph.specs.Graph.{slices, ListRoom, Graph};
 ghost use Rattle.calls.specs.Paper.{textOutcome};

@@ -7,7 +7,7 @@ use native.Mathlib.Omega.{arith}
 use Rattle.meaning.specs.Loops.{pairsFrom, pairsOf}
 use Rattle.meaning.proofs.Listing.{pairs-step, pairs-end}
 use Rattle.lent.proofs.Runs.{wrote-length}
-use Rattle.links.specs.Links.{linked?}
+use Rattle.sharing.specs.Links.{linked?}
 use Rattle.graph.specs.Graph.{slices}
 use Rattle.graph.proofs.Turns.{none-listed, Part, part-more, part-ends, pairs-length, numbers-length, next-room, all-room, graph-listed}
 use Rattle.graph.proofs.list_links.Statement.{statement}

@@ -2,7 +2,7 @@
 -- Assumes nothing.
 use borrow.Author.Needs.{needs}
 use Rattle.lent.proofs.Tallies.{zeros-at}
-use Rattle.links.specs.Links.{linkBytes}
+use Rattle.sharing.specs.Links.{linkBytes}
 use Rattle.graph.proofs.Turns.{graph-iff}
 use Rattle.graph.proofs.Firsts.{firsts-room}
 use Rattle.graph.proofs.list_pairs.Statement.{statement}

@@ -7,7 +7,7 @@ use Prim.Native.Nat.{_-_, _<_}
 use native.Mathlib.Omega.{arith}
 use Rattle.meaning.specs.Loops.{row, rowOf}
 use Rattle.meaning.proofs.Listing.{row-end}
-use Rattle.links.specs.Links.{linked?}
+use Rattle.sharing.specs.Links.{linked?}
 use Rattle.graph.specs.Graph.{slices}
 use Rattle.graph.proofs.Turns.{none-listed, pair-listed, Part, part-more, part-ends, pairs-length, numbers-length, next-room, pair-room, row-takes, row-skips}
 use Rattle.graph.proofs.list_row.Statement.{statement}

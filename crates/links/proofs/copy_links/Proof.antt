@@ -6,7 +6,7 @@ use mathlib.Core.List.{List}
 use Prim.Native.Nat.{ℕ, _+_, _-_, _*_, _<_}
 use native.Mathlib.Omega.{arith}
 use lib.ListN.{length, getD, length-set}
-use Rattle.links.specs.Links.{linkBytes}
+use Rattle.sharing.specs.Links.{linkBytes}
 use Rattle.links.specs.Copies.{linkOf}
 use Rattle.links.proofs.Bytes.{ShowsTo, shows-more, shows-passed}
 use Rattle.links.proofs.copy_links.Statement.{statement}

@@ -4,7 +4,7 @@ use Prim.Native.Nat.{ℕ}
 use borrow.Author.Needs.{needs}
 use lib.ListN.{length-replicate}
 use Rattle.lent.proofs.Tallies.{zeros-at}
-use Rattle.links.specs.Links.{linkBytes}
+use Rattle.sharing.specs.Links.{linkBytes}
 use Rattle.links.proofs.Linked.{merged-linked, copy-room, kept-linked}
 use Rattle.links.proofs.link_positions.Statement.{statement}
 use Rattle.links.proofs.link_positions.Tie as tie

@@ -7,7 +7,7 @@ use lib.ListN.{length-replicate}
 use Rattle.lent.proofs.Tallies.{zeros-at}
 use Rattle.held.proofs.Kept.{keeps-good}
 use Rattle.chains.specs.Chains.{entries}
-use Rattle.links.proofs.Sharing.{sharing-shows}
+use Rattle.sharing.proofs.Sharing.{sharing-shows}
 use Rattle.links.proofs.forests.link_moves.Statement.{statement}
 use Rattle.links.proofs.forests.link_moves.Tie as tie
 

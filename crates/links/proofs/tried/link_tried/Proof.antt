@@ -16,7 +16,7 @@ use Rattle.held.specs.declared.Table.{Table}
 use Rattle.held.proofs.Kept.{kept-at}
 use Rattle.links.specs.Link.{Tried}
 use Rattle.links.specs.declared.Test.{Test}
-use Rattle.links.specs.Links.{linkBytes, LinkedIn, OfTrees}
+use Rattle.sharing.specs.Links.{linkBytes, LinkedIn, OfTrees}
 use Rattle.links.proofs.Bytes.{ShowsTo, says-byte, shows-more}
 use Rattle.links.proofs.Linked.{both-iff, byte-iff, linked-iff}
 use Rattle.links.proofs.tried.link_tried.Statement.{statement}

@@ -23,8 +23,8 @@ use Rattle.pairs.proofs.Ordered.{canon-in-order}
 use Rattle.prints.proofs.Print.{key-same, key-some}
 use Rattle.chains.specs.Chains.{rowEntries, Last, HasKey}
 use Rattle.chains.proofs.Laws.{last-less, Walk, walk-begins, walk-further, walk-ends}
-use Rattle.links.specs.Links.{linkBytes, LinkedIn}
-use Rattle.links.specs.Entries.{treeNo, cutNo, forestAt, Entry, SameAs, Rows, Keyed, Seeks, Linkable, LinkedBack}
+use Rattle.sharing.specs.Links.{linkBytes, LinkedIn}
+use Rattle.sharing.specs.Entries.{treeNo, cutNo, forestAt, Entry, SameAs, Rows, Keyed, Seeks, Linkable, LinkedBack}
 
 -- ---- forests that are the same
 pub same-turned : {c d : Cut} → SameForest c d → SameForest d c

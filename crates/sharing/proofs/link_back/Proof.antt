@@ -1,14 +1,14 @@
--- `links::forests::link_back` meets its contract. The loop's invariant: the trees of the entries that were passed are linked.
+-- `sharing::link_back` meets its contract. The loop's invariant: the trees of the entries that were passed are linked.
 -- Assumes nothing.
 use mathlib.Core.List.{List}
 use Prim.Native.Nat.{_/_, _<_}
 use native.Mathlib.Omega.{arith}
 use lib.ListN.{getD}
 use Rattle.meaning.specs.Tree.{Tree as Topology}
-use Rattle.links.specs.Entries.{Linkable}
-use Rattle.links.proofs.Entries.{Back, column, entry-below, twin-less, back-begins, row, twin-below, back-less, back-further, back-ends}
-use Rattle.links.proofs.forests.link_back.Statement.{statement}
-use Rattle.links.proofs.forests.link_back.Tie as tie
+use Rattle.sharing.specs.Entries.{Linkable}
+use Rattle.sharing.proofs.Entries.{Back, column, entry-below, twin-less, back-begins, row, twin-below, back-less, back-further, back-ends}
+use Rattle.sharing.proofs.link_back.Statement.{statement}
+use Rattle.sharing.proofs.link_back.Tie as tie
 
 abbrev Inv-loop : tie.InvT-loop
 Inv-loop links₀ twins e j q₀ links q = (ts : List Topology) → Linkable ts twins e → Back ts links₀ links e q

@@ -1,10 +1,10 @@
--- `links::forests::same_forest_at` meets its contract: both rows are parts of the bytes.
+-- `sharing::same_forest_at` meets its contract: both rows are parts of the bytes.
 -- Assumes nothing.
 use mathlib.Core.Path.{refl}
 use borrow.Author.Needs.{needs}
-use Rattle.links.proofs.Entries.{row-is, row-holds, row-cut}
-use Rattle.links.proofs.forests.same_forest_at.Statement.{statement}
-use Rattle.links.proofs.forests.same_forest_at.Tie as tie
+use Rattle.sharing.proofs.Entries.{row-is, row-holds, row-cut}
+use Rattle.sharing.proofs.same_forest_at.Statement.{statement}
+use Rattle.sharing.proofs.same_forest_at.Tie as tie
 
 mul-i : tie.Need-mul-i
 mul-i c = search needs

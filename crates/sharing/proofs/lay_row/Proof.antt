@@ -1,9 +1,9 @@
--- `links::forests::lay_row` meets its contract.
+-- `sharing::lay_row` meets its contract.
 -- Assumes nothing.
 use borrow.Author.Needs.{needs}
-use Rattle.links.proofs.Rows.{row-laid}
-use Rattle.links.proofs.forests.lay_row.Statement.{statement}
-use Rattle.links.proofs.forests.lay_row.Tie as tie
+use Rattle.sharing.proofs.Rows.{row-laid}
+use Rattle.sharing.proofs.lay_row.Statement.{statement}
+use Rattle.sharing.proofs.lay_row.Tie as tie
 
 mul-at : tie.Need-mul-at
 mul-at c = search needs

@@ -25,7 +25,7 @@ use Rattle.held.proofs.Laws.{few-nodes}
 use Rattle.prints.specs.Print.{key}
 use Rattle.prints.specs.Keys.{KeysNoted}
 use Rattle.chains.specs.Chains.{rowEntries, entries}
-use Rattle.links.specs.Entries.{treeNo, cutNo, forestAt, Entry, RowLaid}
+use Rattle.sharing.specs.Entries.{treeNo, cutNo, forestAt, Entry, RowLaid}
 
 -- the rows of the first n trees are laid out
 pub record LaidTo (ts : List Topology) (bytes keys : List ℕ) (n : ℕ) : Type 0 where

@@ -18,8 +18,8 @@ use Rattle.pairs.specs.Pair.{SameForest}
 use Rattle.prints.specs.Print.{key}
 use Rattle.prints.specs.Keys.{KeysNoted}
 use Rattle.chains.specs.Chains.{rowEntries, entries, Last, Found}
-use Rattle.links.specs.Links.{linkBytes, LinkedIn}
-use Rattle.links.specs.Copies.{FirstsNoted}
+use Rattle.sharing.specs.Links.{linkBytes, LinkedIn}
+use Rattle.sharing.specs.Firsts.{FirstsNoted}
 
 -- ---- entries
 -- entry e is in the row of this tree

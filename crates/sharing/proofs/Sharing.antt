@@ -24,8 +24,8 @@ use Rattle.pairs.specs.Pair.{SameForest, SharesForest}
 use Rattle.pairs.proofs.Apart.{share-move, move-share}
 use Rattle.prints.proofs.Print.{key-some}
 use Rattle.chains.specs.Chains.{rowEntries, Last}
-use Rattle.links.specs.Links.{linkBytes, LinkedIn, Shows}
-use Rattle.links.specs.Entries.{treeNo, cutNo, forestAt, Entry, SameAs, Keyed, Twins, Linkable, LinkedBack, Sharing, SharesLinked}
+use Rattle.sharing.specs.Links.{linkBytes, LinkedIn, Shows}
+use Rattle.sharing.specs.Entries.{treeNo, cutNo, forestAt, Entry, SameAs, Keyed, Twins, Linkable, LinkedBack, Sharing, SharesLinked}
 
 -- ---- the entries before e are seen to
 pub record Shared (ts : List Topology) (links twins : List ℕ) (e : ℕ) : Type 0 where

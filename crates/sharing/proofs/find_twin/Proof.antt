@@ -1,4 +1,4 @@
--- `links::forests::find_twin` meets its contract. The loop's invariant: no entry with the forest was passed.
+-- `sharing::find_twin` meets its contract. The loop's invariant: no entry with the forest was passed.
 -- Assumes nothing.
 use mathlib.Core.List.{List}
 use Prim.Native.Nat.{ℕ, _<_}
@@ -9,10 +9,10 @@ use Rattle.meaning.specs.Tree.{Tree as Topology}
 use Rattle.lent.proofs.Says.{said, denied}
 use Rattle.pairs.specs.Pair.{SameForest}
 use Rattle.chains.proofs.Laws.{last-less, walk-ends}
-use Rattle.links.specs.Entries.{forestAt, EntryIn, Seeks}
-use Rattle.links.proofs.Entries.{Seek, entry-some, seek-first, seek-begins, seek-entry, seek-below, seek-less, seek-further, seek-ends}
-use Rattle.links.proofs.forests.find_twin.Statement.{statement}
-use Rattle.links.proofs.forests.find_twin.Tie as tie
+use Rattle.sharing.specs.Entries.{forestAt, EntryIn, Seeks}
+use Rattle.sharing.proofs.Entries.{Seek, entry-some, seek-first, seek-begins, seek-entry, seek-below, seek-less, seek-further, seek-ends}
+use Rattle.sharing.proofs.find_twin.Statement.{statement}
+use Rattle.sharing.proofs.find_twin.Tie as tie
 
 abbrev Inv-loop : tie.InvT-loop
 Inv-loop nodes same e q₀ q = (ts : List Topology) (keys : List ℕ) (end : ℕ) (S : Seeks ts nodes keys same end e) → Seek S q

@@ -1,4 +1,4 @@
--- `links::forests::lay_out` meets its contract. The loop's invariant: the rows of the first i trees are laid out.
+-- `sharing::lay_out` meets its contract. The loop's invariant: the rows of the first i trees are laid out.
 -- Assumes nothing.
 use mathlib.Core.Path.{_≡_, sym, _∙_}
 use mathlib.Core.Logic.{⊎-elim}
@@ -11,10 +11,10 @@ use Rattle.held.specs.Kept.{Kept, heldAt}
 use Rattle.held.specs.declared.Table.{Table}
 use Rattle.held.proofs.Kept.{kept-at, keeps-good}
 use Rattle.chains.specs.Chains.{entries}
-use Rattle.links.specs.Links.{OfTrees}
-use Rattle.links.proofs.Rows.{LaidTo, laid-none, laid-copy, laid-first}
-use Rattle.links.proofs.forests.lay_out.Statement.{statement}
-use Rattle.links.proofs.forests.lay_out.Tie as tie
+use Rattle.sharing.specs.Links.{OfTrees}
+use Rattle.sharing.proofs.Rows.{LaidTo, laid-none, laid-copy, laid-first}
+use Rattle.sharing.proofs.lay_out.Statement.{statement}
+use Rattle.sharing.proofs.lay_out.Tie as tie
 
 -- so many rows are laid out, and there is room for the others
 record LaidOut (table : Table) (nodes keys : List ℕ) (n : ℕ) : Type 0 where

@@ -1,4 +1,4 @@
--- `links::forests::link_sharing` meets its contract. The loop's invariant: the trees of the entries before e are linked.
+-- `sharing::link_sharing` meets its contract. The loop's invariant: the trees of the entries before e are linked.
 -- Assumes nothing.
 use mathlib.Core.Path.{_≡_}
 use mathlib.Core.Logic.{⊎-elim}
@@ -9,11 +9,11 @@ use lib.ListN.{length, set, length-set, length-replicate}
 use Rattle.meaning.specs.Tree.{Tree as Topology}
 use Rattle.chains.specs.Chains.{entries, Last}
 use Rattle.chains.proofs.Laws.{last-less}
-use Rattle.links.specs.Links.{linkBytes}
-use Rattle.links.specs.Entries.{SameAs, Laid, Seeks, Linkable}
-use Rattle.links.proofs.Sharing.{Shared, shared-none, shared-past, entry-of, twins-linkable, shared-more}
-use Rattle.links.proofs.forests.link_sharing.Statement.{statement}
-use Rattle.links.proofs.forests.link_sharing.Tie as tie
+use Rattle.sharing.specs.Links.{linkBytes}
+use Rattle.sharing.specs.Entries.{SameAs, Laid, Seeks, Linkable}
+use Rattle.sharing.proofs.Sharing.{Shared, shared-none, shared-past, entry-of, twins-linkable, shared-more}
+use Rattle.sharing.proofs.link_sharing.Statement.{statement}
+use Rattle.sharing.proofs.link_sharing.Tie as tie
 
 -- whatever trees are laid out, those of the entries before e are linked
 record Linking (nodes keys links twins : List ℕ) (e : ℕ) : Type 0 where
