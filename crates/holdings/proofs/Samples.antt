@@ -2,12 +2,10 @@
 -- Assumes nothing.
 use mathlib.Core.Path.{_≡_, refl}
 use mathlib.Core.List.{List, [], _∷_}
-use Prim.Native.Nat.{ℕ}
 use lib.ListN.{take}
 use Rattle.meaning.specs.Lists.{positions}
 use Rattle.meaning.specs.Sorted.{lesser, insert, sortBy}
-use Rattle.meaning.specs.Tree.{Tree, leaf, fork, canon}
-use Rattle.meaning.specs.Listing.{Pair}
+use Rattle.meaning.specs.Tree.{Tree, leaf, fork}
 use Rattle.holdings.specs.Slots.{Slot, free, held, smallestFree, add, remove}
 use Rattle.holdings.specs.Entries.{ownFrom, entries}
 use Rattle.holdings.specs.Memory.{slotBytes}

@@ -3,10 +3,10 @@
 use mathlib.Core.Path.{_≡_, refl, sym, ap, subst, _∙_}
 use mathlib.Core.Logic.{_≢_}
 use mathlib.Core.List.{List, [], _∷_, _++_, List·Memᴰ·head}
-use Prim.Native.Nat.{ℕ, suc, _+_, _*_, _≤_, _<_}
+use Prim.Native.Nat.{ℕ, _+_, _*_, _≤_, _<_}
 use native.Mathlib.Omega.{arith}
 use lib.Dec.{T, ltb}
-use lib.ListN.{length, take, getD, set, length-map, length-append}
+use lib.ListN.{length, take, getD, set, length-append}
 use lib.Seq.{length-take-le, getD-take, take-take}
 use Rattle.meaning.specs.Limits.{maxLabel}
 use Rattle.meaning.specs.Tree.{Tree as Topology, canon}
@@ -20,8 +20,8 @@ use Rattle.held.specs.Kept.{Keeps, Kept, heldAt, KeepsAll}
 use Rattle.held.specs.declared.Table.{Table}
 use Rattle.held.proofs.Kept.{keeps-good}
 use Rattle.families.specs.Grown.{grow, GrowsTo}
-use Rattle.families.specs.Support.{holders, supported, support, majority, chosen}
-use Rattle.families.specs.Majority.{mark, writeMulti, majorityTree, majorityText}
+use Rattle.families.specs.Support.{holders, supported, majority, chosen}
+use Rattle.families.specs.Majority.{majorityTree, majorityText}
 use Rattle.families.proofs.Support.{EachGood, OneSet}
 use Rattle.families.proofs.Prefix.{chosen-prefix}
 use Rattle.families.proofs.Majority.{majority-grows}

@@ -3,7 +3,7 @@
 use mathlib.Core.Path.{_≡_, refl, sym, ap, ap₂, subst, _∙_}
 use mathlib.Core.Logic.{_↔_}
 use mathlib.Core.Bool.{Bool, true, false, cond}
-use mathlib.Core.List.{List, [], _∷_, List·Memᴰ}
+use mathlib.Core.List.{List, [], _∷_}
 use Prim.Native.Nat.{ℕ, zero, suc, _+_, _*_, _-_, _≤_, _<_}
 use native.Mathlib.Omega.{arith}
 use lib.Dec.{T}
@@ -19,16 +19,16 @@ use Rattle.meaning.specs.Answer.{Comparison, accepted}
 use Rattle.meaning.specs.Compared.{shares?, hasClade?, through, compared, comparedAs, comparison}
 use Rattle.meaning.specs.Calls.{pairRead, PairCall, is-apart, not-apart}
 use Rattle.meaning.proofs.Logic.{cases, clash}
-use Rattle.meaning.proofs.Lists.{any-mem, mem-any, number, numbered}
+use Rattle.meaning.proofs.Lists.{any-mem, mem-any}
 use Rattle.meaning.proofs.Sums.{bit-one}
 use Rattle.meaning.proofs.Same.{≈-sym, ≈-in, topology-sym}
-use Rattle.meaning.proofs.Canon.{canon-≈, canon-good, canon-distinct, canon-topology, topology-iff-canon}
+use Rattle.meaning.proofs.Canon.{canon-≈, canon-distinct, canon-topology, topology-iff-canon}
 use Rattle.meaning.proofs.Alike.{same-labels-iff}
-use Rattle.meaning.proofs.Moves.{IsCut, ≈-prune, prune-good, prune-cut, cut-prune, apart-topology}
+use Rattle.meaning.proofs.Moves.{≈-prune, prune-cut, cut-prune, apart-topology}
 use Rattle.meaning.proofs.Text.{canon-forest, forest-canon}
 use Rattle.meaning.proofs.Forests.{cuts-canon, cutAt-prune, cutAt-good, at-cutAt}
 use Rattle.meaning.proofs.Decide.{sameTopology-iff, forest-test, oneMove-iff}
-use Rattle.meaning.proofs.Calls.{PairRead, tells-accepted, pair-tells}
+use Rattle.meaning.proofs.Calls.{tells-accepted, pair-tells}
 
 -- ---- the two tests of a cut
 -- trees of one canonical form have one clade

@@ -3,7 +3,7 @@
 use mathlib.Core.Path.{_≡_, refl, sym, ap, ap₂, _∙_, subst}
 use mathlib.Core.List.{List, _++_}
 use mathlib.Core.Bool.{false}
-use Prim.Native.Nat.{ℕ, zero, suc, _+_, _-_, _*_, _/_, _^_, _≤_, _<_, max}
+use Prim.Native.Nat.{ℕ, zero, suc, _+_, _*_, _/_, _^_, _≤_, _<_, max}
 use native.Mathlib.Nat.{le-refl, le-trans, le-of-eq, le-add-right, mul-assoc, mul-comm, mul-right-comm, add-mul, mul-one, mul-pos, mul-le-mul-right, pow-suc}
 use native.Mathlib.Omega.{arith}
 use lib.Dec.{lit≤}

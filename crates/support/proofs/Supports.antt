@@ -2,12 +2,11 @@
 -- Assumes nothing.
 use mathlib.Core.Path.{_≡_, refl, sym, ap, subst, _∙_}
 use mathlib.Core.Bool.{Bool, true, false, not}
-use mathlib.Core.List.{List, [], _∷_, _++_, map, List·Memᴰ, List·Memᴰ·head, List·Memᴰ·tail}
-use Prim.Native.Nat.{ℕ, suc, _+_, _*_, _≤_, _<_}
+use mathlib.Core.List.{List, [], _∷_, map, List·Memᴰ·head, List·Memᴰ·tail}
+use Prim.Native.Nat.{ℕ, suc, _*_, _≤_}
 use native.Mathlib.Omega.{arith}
 use lib.Dec.{eqb}
 use lib.ListN.{length, take, length-append, length-map}
-use lib.Seq.{slice, sets}
 use Rattle.meaning.specs.Limits.{maxTrees}
 use Rattle.meaning.specs.Tree.{Tree as Topology, leaf, Good, canon}
 use Rattle.meaning.proofs.Lists.{number}
@@ -18,16 +17,16 @@ use Rattle.held.specs.Kept.{KeepsAll}
 use Rattle.held.specs.declared.Table.{Table}
 use Rattle.families.specs.Clades.{clades}
 use Rattle.meaning.specs.Sorted.{put}
-use Rattle.families.specs.Support.{pooled, supported, support}
+use Rattle.families.specs.Support.{pooled, supported}
 use Rattle.families.proofs.Clades.{clades-length}
 use Rattle.families.proofs.Support.{EachGood}
 use Rattle.families.proofs.Reordered.{canon-each-good, supported-canon, support-canon}
 use Rattle.sorting.specs.Merge.{poolSize}
 use Rattle.sorting.specs.Sort.{Sorts, RunSorted}
-use Rattle.support.specs.Counted.{firsts, sizes, grouped, CountRoom, Counted, GroupRoom, Regrouped}
+use Rattle.support.specs.Counted.{firsts, sizes, Counted, GroupRoom, Regrouped}
 use Rattle.support.specs.Supports.{SupportListed}
 use Rattle.sorting.proofs.Runs.{slice-own, run-long}
-use Rattle.support.proofs.Supported.{firsts-long, grouped-supported, grouped-support, sizes-holders}
+use Rattle.support.proofs.Supported.{firsts-long, grouped-supported, grouped-support}
 
 -- a table keeps trees that a text can hold
 pub kept-good : {table : Table} (ts : List Topology) → KeepsAll table ts → EachGood ts

@@ -1,15 +1,13 @@
 -- `index_calls::barred` meets its contract.
 -- Assumes nothing.
 use mathlib.Core.Path.{_≡_, sym, subst}
-use mathlib.Core.Bool.{Bool, true, false}
+use mathlib.Core.Bool.{Bool, true}
 use mathlib.Core.List.{List}
 use Prim.Native.Nat.{ℕ, _≤_}
-use borrow.Author.Needs.{needs}
 use borrow.Author.Tests.{not-true, not-false}
 use lib.ListN.{length}
-use Rattle.meaning.specs.Tree.{Tree}
 use Rattle.lent.proofs.Says.{said, denied}
-use Rattle.holdings.specs.Slots.{Slot, free, held, slotAt}
+use Rattle.holdings.specs.Slots.{Slot, free, slotAt}
 use Rattle.holdings.specs.Memory.{indexBytes, Valid}
 use Rattle.holdings.proofs.Memory.{index-shelved}
 use Rattle.slots.proofs.Shelving.{some-tree}

@@ -9,7 +9,7 @@ use Rattle.meaning.specs.Limits.{maxNodes}
 use Rattle.meaning.specs.Tree.{Tree, fork}
 use Rattle.lent.proofs.Says.{said, denied}
 use Rattle.held.specs.Held.{Holds}
-use Rattle.held.proofs.Laws.{within, inside, unique}
+use Rattle.held.proofs.Laws.{within, unique}
 use Rattle.pairs.specs.Ordered.{InOrder, HeldFork}
 use Rattle.pairs.proofs.Children.{holds-second, second-held}
 use Rattle.interchanges.proofs.Walk.{Down, down-forks, down-second, down-first, down-here, leaf-ends, leaf-ends′}

@@ -1,11 +1,9 @@
 -- `majority::write_majority` meets its contract: each step is a law of proofs/Whole.
 -- Assumes nothing.
-use mathlib.Core.Path.{_≡_, _∙_}
-use Prim.Native.Nat.{ℕ, _<_}
+use Prim.Native.Nat.{_<_}
 use native.Mathlib.Omega.{arith}
 use borrow.Author.Needs.{needs}
 use lib.ListN.{length}
-use Rattle.lent.proofs.Runs.{wrote-length}
 use Rattle.majority.proofs.Whole.{first-kept, whole-room, end-room, majority-written, none-written}
 use Rattle.majority.proofs.write_majority.Statement.{statement}
 use Rattle.majority.proofs.write_majority.Tie as tie

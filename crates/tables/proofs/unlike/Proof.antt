@@ -1,10 +1,9 @@
 -- `tables::unlike` meets its contract.
 -- Assumes nothing.
-use mathlib.Core.Bool.{Bool}
 use mathlib.Core.Path.{_≡_, sym, ap₂, _∙_}
 use borrow.Author.Needs.{needs}
 use borrow.Author.Tests.{not-true, not-false}
-use Rattle.meaning.specs.Kind.{Kind, Kinded}
+use Rattle.meaning.specs.Kind.{Kinded}
 use Rattle.meaning.specs.Reading.{sameKind}
 use Rattle.held.specs.Kept.{KeepsKind}
 use Rattle.tables.proofs.unlike.Statement.{statement}
