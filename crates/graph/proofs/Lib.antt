@@ -3,4 +3,3 @@ pub mod Listed
 pub mod Moves
 pub mod Stores
 pub mod Turns
-pub mod Unite

@@ -1,4 +1,3 @@
 pub mod Copies
 pub mod Graph
-pub mod Islands
 pub mod Listed

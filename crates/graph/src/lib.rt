@@ -1,9 +1,6 @@
-// The graph of a table: listing and counting its linked positions, and its islands.
-pub mod islands;
-
+// The graph of a table: listing and counting its linked positions.
 use held::Kind;
 use held::Table;
-pub use islands::list_islands;
 use links::Copies;
 use links::Link;
 use sharing::Links;

@@ -26,7 +26,7 @@ use Rattle.links.specs.Copies.{choiceOf}
 use Rattle.links.specs.declared.Copies.{Copies}
 use Rattle.graph.specs.Graph.{ListRoom, Graph}
 use Rattle.graph.specs.Copies.{MovesRoom, FirstsGraph, MovesWritten}
-use Rattle.graph.specs.Islands.{IslandGraphRoom, IslandsWritten}
+use Rattle.numbering.specs.Islands.{IslandGraphRoom, IslandsWritten}
 use Rattle.tables.specs.Lent.{TableLent}
 use Rattle.listing_calls.specs.Paper.{graphOutcome, firstsOutcome, islandsOutcome}
 use Rattle.listing_calls.specs.declared.GraphAnswer.the-variants.{Listed, Refused}

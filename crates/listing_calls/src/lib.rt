@@ -129,7 +129,7 @@ pub fn islands_call(
         Step::Refused(x) => GraphAnswer::Refused(x),
         Step::Next(_, count) => GraphAnswer::Listed(
             count,
-            graph::list_islands(pairs, counts, firsts, islands, read.table),
+            numbering::list_islands(pairs, counts, firsts, islands, read.table),
         ),
     }
 }

@@ -23,7 +23,7 @@ use Rattle.lent.proofs.Runs.{sets-at, written-first, wrote-length}
 use Rattle.lent.proofs.Tallies.{count-le, zeros-room, zeros-tallied}
 use Rattle.held.specs.Kept.{KeepsTrees}
 use Rattle.held.specs.declared.Table.{Table}
-use Rattle.graph.specs.Islands.{IslandsWritten}
+use Rattle.numbering.specs.Islands.{IslandsWritten}
 use Rattle.sheet.specs.Islands.{IslandLinesFit}
 use Rattle.sheet.specs.Printed.{ShownAll}
 use Rattle.sheet.proofs.Rows.{rows, turn-room, turn-wrote, turns-wrote}

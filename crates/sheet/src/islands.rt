@@ -45,7 +45,7 @@ fn write_table_islands(out: &mut [u8], table: Table) -> usize
     let mut counts = [0u16; Table::MAX_TREES];
     let mut firsts = [0u16; Table::MAX_TREES];
     let mut numbers = [0u16; Table::MAX_TREES];
-    graph::list_islands(&mut pairs, &mut counts, &mut firsts, &mut numbers, table);
+    numbering::list_islands(&mut pairs, &mut counts, &mut firsts, &mut numbers, table);
     write_island_lines(out, &numbers, table.len)
 }
 

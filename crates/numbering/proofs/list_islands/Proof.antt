@@ -1,9 +1,9 @@
--- `graph::islands::list_islands` meets its contract.
+-- `numbering::list_islands` meets its contract.
 -- Assumes nothing.
 use borrow.Author.Needs.{needs}
-use Rattle.graph.proofs.Unite.{islands-room, islands-written}
-use Rattle.graph.proofs.islands.list_islands.Statement.{statement}
-use Rattle.graph.proofs.islands.list_islands.Tie as tie
+use Rattle.numbering.proofs.Uniting.{islands-room, islands-written}
+use Rattle.numbering.proofs.list_islands.Statement.{statement}
+use Rattle.numbering.proofs.list_islands.Tie as tie
 
 list-moves-requires : tie.Need-list-moves-requires
 list-moves-requires c κs = search needs

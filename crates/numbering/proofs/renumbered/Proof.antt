@@ -1,8 +1,8 @@
--- `graph::islands::renumbered` meets its contract.
+-- `numbering::renumbered` meets its contract.
 -- Assumes nothing.
 use borrow.Author.Tests.{eq-eqb, ne-eqb}
-use Rattle.graph.proofs.islands.renumbered.Statement.{statement}
-use Rattle.graph.proofs.islands.renumbered.Tie as tie
+use Rattle.numbering.proofs.renumbered.Statement.{statement}
+use Rattle.numbering.proofs.renumbered.Tie as tie
 
 returns : tie.Need-returns
 returns c = rw (eq-eqb (c .before .args .x) (c .before .args .from) (c .if1 .taken))

@@ -1,4 +1,4 @@
--- `graph::islands::copy_firsts` meets its contract. The loop's invariant: the firsts that are passed are copied.
+-- `numbering::copy_firsts` meets its contract. The loop's invariant: the firsts that are passed are copied.
 -- Assumes nothing.
 use mathlib.Core.Path.{_≡_, refl, subst}
 use Prim.Native.Nat.{ℕ, _-_, _≤_}
@@ -6,9 +6,9 @@ use native.Mathlib.Omega.{arith}
 use lib.ListN.{take}
 use Rattle.lent.specs.Runs.{Wrote}
 use Rattle.lent.proofs.Runs.{wrote-length}
-use Rattle.graph.proofs.Unite.{copy-more}
-use Rattle.graph.proofs.islands.copy_firsts.Statement.{statement}
-use Rattle.graph.proofs.islands.copy_firsts.Tie as tie
+use Rattle.numbering.proofs.Uniting.{copy-more}
+use Rattle.numbering.proofs.copy_firsts.Statement.{statement}
+use Rattle.numbering.proofs.copy_firsts.Tie as tie
 
 abbrev Inv-loop : tie.InvT-loop
 Inv-loop numbers₀ firsts n i₀ numbers i = (i ≤ n) × Wrote (take i firsts) numbers₀ numbers 0 i

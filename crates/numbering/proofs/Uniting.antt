@@ -19,11 +19,11 @@ use Rattle.meaning.proofs.MergedIslands.{merged-found}
 use Rattle.lent.specs.Runs.{Wrote}
 use Rattle.lent.proofs.Runs.{sets-start, wrote-one, wrote-more, wrote-length, written-first, same-behind, written-over}
 use Rattle.held.specs.declared.Table.{Table}
 use Rattle.graph.specs.Copies.{MovesWritten}
 use Rattle.links.specs.declared.Copies.the-variants.{Merged}
 use Rattle.graph.specs.Listed.{PairsListed}
-use Rattle.graph.specs.Islands.{IslandsRoom, IslandGraphRoom, IslandsWritten}
+use Rattle.numbering.specs.Islands.{IslandsRoom, IslandGraphRoom, IslandsWritten}
 use Rattle.graph.proofs.Listed.{pair-first, pair-second, graph-pairs}
 
 -- ---- a turn of a loop
 pub renumber-more : (f : ℕ → ℕ) {out out′ : List ℕ} (i : ℕ) → i < length out → Wrote (map f (take i out)) out out′ 0 i

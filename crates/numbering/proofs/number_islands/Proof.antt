@@ -1,4 +1,4 @@
--- `graph::islands::number_islands` meets its contract. The loop's invariant: the islands of the pairs that are passed are united.
+-- `numbering::number_islands` meets its contract. The loop's invariant: the islands of the pairs that are passed are united.
 -- Assumes nothing.
 use mathlib.Core.Path.{_∙_}
 use Prim.Native.Nat.{_+_, _-_, _*_, _≤_, _<_}
@@ -6,11 +6,11 @@ use native.Mathlib.Omega.{arith}
 use lib.ListN.{length, take, getD}
 use Rattle.meaning.proofs.Lists.{numbered}
 use Rattle.lent.proofs.Runs.{wrote-length, written-again}
-use Rattle.graph.specs.Islands.{IslandsRoom}
+use Rattle.numbering.specs.Islands.{IslandsRoom}
 use Rattle.graph.proofs.Listed.{pairs-long, pair-first, pair-second}
-use Rattle.graph.proofs.Unite.{UnitedTo, united-more, united-all}
-use Rattle.graph.proofs.islands.number_islands.Statement.{statement}
-use Rattle.graph.proofs.islands.number_islands.Tie as tie
+use Rattle.numbering.proofs.Uniting.{UnitedTo, united-more, united-all}
+use Rattle.numbering.proofs.number_islands.Statement.{statement}
+use Rattle.numbering.proofs.number_islands.Tie as tie
 
 abbrev Inv-loop : tie.InvT-loop
 Inv-loop numbers₀ firsts n pairs m k₀ numbers k = (k ≤ m) × UnitedTo (take n firsts) n pairs m numbers₀ numbers k

@@ -1,4 +1,4 @@
--- `graph::islands::renumber` meets its contract. The loop's invariant: the numbers that are passed are written anew.
+-- `numbering::renumber` meets its contract. The loop's invariant: the numbers that are passed are written anew.
 -- Assumes nothing.
 use mathlib.Core.Path.{_≡_, refl, subst}
 use mathlib.Core.List.{map}
@@ -9,9 +9,9 @@ use lib.ListN.{take}
 use Rattle.meaning.specs.Islands.{renumbered}
 use Rattle.lent.specs.Runs.{Wrote}
 use Rattle.lent.proofs.Runs.{wrote-length}
-use Rattle.graph.proofs.Unite.{renumber-more}
-use Rattle.graph.proofs.islands.renumber.Statement.{statement}
-use Rattle.graph.proofs.islands.renumber.Tie as tie
+use Rattle.numbering.proofs.Uniting.{renumber-more}
+use Rattle.numbering.proofs.renumber.Statement.{statement}
+use Rattle.numbering.proofs.renumber.Tie as tie
 
 abbrev Inv-loop : tie.InvT-loop
 Inv-loop numbers₀ n from to i₀ numbers i = (i ≤ n) × Wrote (map (renumbered from to) (take i numbers₀)) numbers₀ numbers 0 i

@@ -1,10 +1,10 @@
--- `graph::islands::unite` meets its contract.
+-- `numbering::unite` meets its contract.
 -- Assumes nothing.
 use native.Mathlib.Omega.{arith}
 use borrow.Author.Needs.{needs}
-use Rattle.graph.proofs.Unite.{unite-less, unite-more, unite-same}
-use Rattle.graph.proofs.islands.unite.Statement.{statement}
-use Rattle.graph.proofs.islands.unite.Tie as tie
+use Rattle.numbering.proofs.Uniting.{unite-less, unite-more, unite-same}
+use Rattle.numbering.proofs.unite.Statement.{statement}
+use Rattle.numbering.proofs.unite.Tie as tie
 
 mul-a : tie.Need-mul-a
 mul-a c = search needs

@@ -1,5 +1,4 @@
 // Islands: positions that chains of listed pairs join, and their copies. The number of each is the smallest position in it.
-use super::list_moves;
 use held::Table;
 use links::Copies;
 ghost use mathlib.Core.Path.{_≡_};
@@ -9,9 +8,9 @@ ghost use lib.ListN.{length, take};
 ghost use Rattle.meaning.specs.Listing.{Pair};
 ghost use Rattle.meaning.specs.Islands.{renumbered, unite, uniteAll};
 ghost use Rattle.lent.specs.Runs.{Wrote};
 ghost use Rattle.graph.specs.Graph.{slices};
 ghost use Rattle.graph.specs.Listed.{PairsListed};
-ghost use Rattle.graph.specs.Islands.{IslandsRoom, IslandGraphRoom, IslandsWritten};
+ghost use Rattle.numbering.specs.Islands.{IslandsRoom, IslandGraphRoom, IslandsWritten};
 
 // `to` in place of `from`.
 fn renumbered(from: u16, to: u16, x: u16) -> u16
@@ -83,7 +82,7 @@ pub fn list_islands(
         (slices (now (pairs .exit)) (now (counts .exit))) (now (firsts .entry)) (now (firsts .exit))
         (now (islands .entry)) (now (islands .exit)) r ⌝ }
 {
-    let m = list_moves(pairs, counts, firsts, table, Copies::Merged);
+    let m = graph::list_moves(pairs, counts, firsts, table, Copies::Merged);
     number_islands(islands, firsts, table.len, pairs, m);
     m
 }
