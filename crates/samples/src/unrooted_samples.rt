@@ -65,21 +65,21 @@ fn pairs() {
 }
 
 fn tables() {
-    super::print(b"table of unrooted trees : ");
+    answers::print(b"table of unrooted trees : ");
     super::table(b"[&U]((1,2),3,10);[&U](2,(10,1),3); [&U] (3,10,(2,1));");
-    super::print(b"table of marked ones : ");
+    answers::print(b"table of marked ones : ");
     super::table(b"[&R](1,2);(2,1);[&R] (1,2);");
-    super::print(b"table (1,2);[&U](1,2); : ");
+    answers::print(b"table (1,2);[&U](1,2); : ");
     super::table(b"(1,2);[&U](1,2);");
-    super::print(b"table [&U]1;2;x : ");
+    answers::print(b"table [&U]1;2;x : ");
     super::table(b"[&U]1;2;x");
-    super::print(b"table 1;2;[&U]1; : ");
+    answers::print(b"table 1;2;[&U]1; : ");
     super::table(b"1;2;[&U]1;");
-    super::print(b"table 1;[&U]1 : ");
+    answers::print(b"table 1;[&U]1 : ");
     super::table(b"1;[&U]1");
-    super::print(b"table [&U]1;[ : ");
+    answers::print(b"table [&U]1;[ : ");
     super::table(b"[&U]1;[");
-    super::print(b"160 unrooted trees and a rooted one : ");
+    answers::print(b"160 unrooted trees and a rooted one : ");
     super::table(
         b"[&U]1;[&U]1;[&U]1;[&U]1;[&U]1;[&U]1;[&U]1;[&U]1;[&U]1;[&U]1;[&U]1;[&U]1;[&U]1;[&U]1;[&U]1;[&U]1;[&U]1;[&U]1;[&U]1;[&U]1;[&U]1;[&U]1;[&U]1;[&U]1;[&U]1;[&U]1;[&U]1;[&U]1;[&U]1;[&U]1;[&U]1;[&U]1;[&U]1;[&U]1;[&U]1;[&U]1;[&U]1;[&U]1;[&U]1;[&U]1;[&U]1;[&U]1;[&U]1;[&U]1;[&U]1;[&U]1;[&U]1;[&U]1;[&U]1;[&U]1;[&U]1;[&U]1;[&U]1;[&U]1;[&U]1;[&U]1;[&U]1;[&U]1;[&U]1;[&U]1;[&U]1;[&U]1;[&U]1;[&U]1;[&U]1;[&U]1;[&U]1;[&U]1;[&U]1;[&U]1;[&U]1;[&U]1;[&U]1;[&U]1;[&U]1;[&U]1;[&U]1;[&U]1;[&U]1;[&U]1;[&U]1;[&U]1;[&U]1;[&U]1;[&U]1;[&U]1;[&U]1;[&U]1;[&U]1;[&U]1;[&U]1;[&U]1;[&U]1;[&U]1;[&U]1;[&U]1;[&U]1;[&U]1;[&U]1;[&U]1;[&U]1;[&U]1;[&U]1;[&U]1;[&U]1;[&U]1;[&U]1;[&U]1;[&U]1;[&U]1;[&U]1;[&U]1;[&U]1;[&U]1;[&U]1;[&U]1;[&U]1;[&U]1;[&U]1;[&U]1;[&U]1;[&U]1;[&U]1;[&U]1;[&U]1;[&U]1;[&U]1;[&U]1;[&U]1;[&U]1;[&U]1;[&U]1;[&U]1;[&U]1;[&U]1;[&U]1;[&U]1;[&U]1;[&U]1;[&U]1;[&U]1;[&U]1;[&U]1;[&U]1;[&U]1;[&U]1;[&U]1;[&U]1;[&U]1;[&U]1;[&U]1;[&U]1;[&U]1;[&U]1;[&U]1;[&U]1;[&U]1;[&U]1;[&U]1;[&U]1;1;",
     );

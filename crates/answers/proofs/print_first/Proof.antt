@@ -1,10 +1,10 @@
--- `samples::print_first` meets its contract.
+-- `answers::print_first` meets its contract.
 -- Assumes nothing.
 use mathlib.Core.Path.{sym}
 use lib.Seq.{length-take-le}
 use borrow.Author.Needs.{needs}
-use Rattle.samples.proofs.print_first.Statement.{statement}
-use Rattle.samples.proofs.print_first.Tie as tie
+use Rattle.answers.proofs.print_first.Statement.{statement}
+use Rattle.answers.proofs.print_first.Tie as tie
 
 slice-aggregate-write-all : tie.Need-slice-aggregate-write-all
 slice-aggregate-write-all c = sym (length-take-le (c .before .before .before .args .n) (c .before .before .before .args .text .now) (c .before .if1 .taken))

@@ -1,10 +1,10 @@
--- `samples::clade_samples::print_clades` meets its contract.
+-- `more_samples::clade_samples::print_clades` meets its contract.
 -- Assumes nothing.
 use Prim.Native.Nat.{_≤_, _-_}
 use borrow.Author.Needs.{needs}
 use lib.ListN.{length}
-use Rattle.samples.proofs.clade_samples.print_clades.Statement.{statement}
-use Rattle.samples.proofs.clade_samples.print_clades.Tie as tie
+use Rattle.more_samples.proofs.clade_samples.print_clades.Statement.{statement}
+use Rattle.more_samples.proofs.clade_samples.print_clades.Tie as tie
 
 abbrev Inv-loop : tie.InvT-loop
 Inv-loop clades numbers number k₀ t5 t6 t7 k = k ≤ length clades

@@ -1,16 +1,16 @@
--- `samples::row_samples::print_numbers` meets its contract.
+-- `more_samples::plot_samples::print_rows` meets its contract.
 -- Assumes nothing.
 use Prim.Native.Nat.{_≤_, _-_}
 use borrow.Author.Needs.{needs}
 use lib.ListN.{length}
-use Rattle.samples.proofs.row_samples.print_numbers.Statement.{statement}
-use Rattle.samples.proofs.row_samples.print_numbers.Tie as tie
+use Rattle.more_samples.proofs.plot_samples.print_rows.Statement.{statement}
+use Rattle.more_samples.proofs.plot_samples.print_rows.Tie as tie
 
 abbrev Inv-loop : tie.InvT-loop
-Inv-loop numbers n k₀ t4 k = k ≤ length numbers
+Inv-loop rows number i₀ t4 i = i ≤ length rows
 
 abbrev μ-loop : tie.MeasureT-loop
-μ-loop numbers n k₀ t4 k = length numbers - k
+μ-loop rows number i₀ t4 i = length rows - i
 
 loop-holds : tie.Need-loop-holds Inv-loop μ-loop
 loop-holds c = search needs
@@ -21,17 +21,20 @@ slice-aggregate-print c = search needs
 print-requires : tie.Need-print-requires Inv-loop μ-loop
 print-requires c κs = search needs
 
-mul-print-number : tie.Need-mul-print-number Inv-loop μ-loop
-mul-print-number c = search needs
+mul-parts : tie.Need-mul-parts Inv-loop μ-loop
+mul-parts c = search needs
 
-shared-slice-read-print-number : tie.Need-shared-slice-read-print-number Inv-loop μ-loop
-shared-slice-read-print-number c = search needs
+shared-slice-read-parts : tie.Need-shared-slice-read-parts Inv-loop μ-loop
+shared-slice-read-parts c = search needs
+
+parts-requires : tie.Need-parts-requires Inv-loop μ-loop
+parts-requires c κs = search needs
 
 print-number-requires : tie.Need-print-number-requires Inv-loop μ-loop
 print-number-requires c κs = search needs
 
-add-k : tie.Need-add-k Inv-loop μ-loop
-add-k c = search needs
+add-i : tie.Need-add-i Inv-loop μ-loop
+add-i c = search needs
 
 loop-less : tie.Need-loop-less Inv-loop μ-loop
 loop-less c = search needs
@@ -42,8 +45,8 @@ loop-again c = search needs
 returns : tie.Need-returns Inv-loop μ-loop
 returns c = search needs
 
-pub print-numbers-spec : {M : Type 1} → statement M
-print-numbers-spec =
+pub print-rows-spec : {M : Type 1} → statement M
+print-rows-spec =
     tie.close
     (tie.spec
     Inv-loop
@@ -51,10 +54,11 @@ print-numbers-spec =
     loop-holds
     slice-aggregate-print
     print-requires
-    mul-print-number
-    shared-slice-read-print-number
+    mul-parts
+    shared-slice-read-parts
+    parts-requires
     print-number-requires
-    add-k
+    add-i
     loop-less
     loop-again
     returns)

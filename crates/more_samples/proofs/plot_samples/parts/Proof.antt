@@ -1,11 +1,11 @@
--- `samples::plot_samples::parts` meets its contract: the two tests say what the call asks, each number by its bits.
+-- `more_samples::plot_samples::parts` meets its contract: the two tests say what the call asks, each number by its bits.
 -- Assumes nothing.
 use mathlib.Core.Path.{sym, subst}
 use lib.Dec.{T}
 use lib.Ieee.{ofBits, neg}
 use borrow.Author.Needs.{needs}
-use Rattle.samples.proofs.plot_samples.parts.Statement.{statement}
-use Rattle.samples.proofs.plot_samples.parts.Tie as tie
+use Rattle.more_samples.proofs.plot_samples.parts.Statement.{statement}
+use Rattle.more_samples.proofs.plot_samples.parts.Tie as tie
 
 truncating-f64-to-u64-requires : tie.Need-truncating-f64-to-u64-requires
 unfolding ofBits neg

@@ -1,10 +1,10 @@
--- `samples::listing_samples::print_island_sheet` meets its contract.
+-- `more_samples::listing_samples::print_island_sheet` meets its contract.
 -- Assumes nothing.
 use mathlib.Core.Path.{sym}
 use lib.Seq.{length-take-le}
 use borrow.Author.Needs.{needs}
-use Rattle.samples.proofs.listing_samples.print_island_sheet.Statement.{statement}
-use Rattle.samples.proofs.listing_samples.print_island_sheet.Tie as tie
+use Rattle.more_samples.proofs.listing_samples.print_island_sheet.Statement.{statement}
+use Rattle.more_samples.proofs.listing_samples.print_island_sheet.Tie as tie
 
 slice-aggregate-print : tie.Need-slice-aggregate-print
 slice-aggregate-print c = search needs

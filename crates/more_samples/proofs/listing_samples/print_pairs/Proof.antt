@@ -1,10 +1,10 @@
--- `samples::listing_samples::print_pairs` meets its contract.
+-- `more_samples::listing_samples::print_pairs` meets its contract.
 -- Assumes nothing.
 use Prim.Native.Nat.{_≤_, _-_, _/_}
 use borrow.Author.Needs.{needs}
 use lib.ListN.{length}
-use Rattle.samples.proofs.listing_samples.print_pairs.Statement.{statement}
-use Rattle.samples.proofs.listing_samples.print_pairs.Tie as tie
+use Rattle.more_samples.proofs.listing_samples.print_pairs.Statement.{statement}
+use Rattle.more_samples.proofs.listing_samples.print_pairs.Tie as tie
 
 abbrev Inv-loop : tie.InvT-loop
 Inv-loop pairs number m₀ t4 t5 m = m ≤ length pairs / 2

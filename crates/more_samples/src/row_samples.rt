@@ -8,8 +8,8 @@ fn print_numbers(numbers: &[u64], n: usize) {
     let mut k = 0;
     while k < numbers.len() {
         if k < n {
-            super::print(b" ");
-            super::print_number(numbers[k] as usize);
+            answers::print(b" ");
+            answers::print_number(numbers[k] as usize);
         }
         k += 1;
     }
@@ -19,40 +19,40 @@ fn print_row(answer: TextAnswer, row: &[u64]) {
     match answer {
         TextAnswer::Written(n) => {
             print_numbers(row, n);
-            super::print(b"\n");
+            answers::print(b"\n");
         }
         TextAnswer::Refused(x) => {
-            super::print(b" ");
-            super::print_refusal(x);
+            answers::print(b" ");
+            answers::print_refusal(x);
         }
     }
 }
 
 fn row(text: &[u8]) {
     let mut out = [0u64; Row::NUMBERS];
-    super::print(b"row ");
-    super::print(text);
-    super::print(b" :");
+    answers::print(b"row ");
+    answers::print(text);
+    answers::print(b" :");
     let answer = row_calls::row_call(text, &mut out);
     print_row(answer, &out);
 }
 
 fn row_text(row: &[u64]) {
     let mut out = [0u8; Tree::FORM_BYTES];
-    super::print(b"text of row");
+    answers::print(b"text of row");
     print_numbers(row, row.len());
-    super::print(b" : ");
+    answers::print(b" : ");
     let answer = row_calls::row_text_call(row, &mut out);
-    super::print_text(answer, &out);
+    answers::print_text(answer, &out);
 }
 
 fn row_pair(row: &[u64], other: &[u64]) {
-    super::print(b"pair of rows");
+    answers::print(b"pair of rows");
     print_numbers(row, row.len());
-    super::print(b" and");
+    answers::print(b" and");
     print_numbers(other, other.len());
-    super::print(b" : ");
-    super::print_pair(row_calls::row_pair_call(row, other));
+    answers::print(b" : ");
+    answers::print_pair(row_calls::row_pair_call(row, other));
 }
 
 // One leaf, two, the deepest tree, and refusals.
@@ -69,7 +69,7 @@ fn rows_of_texts() {
     row(b"");
     row(b"[&U](1,2,3);");
     row(b"[&U]7;x");
-    super::print(b"row of the deepest tree :");
+    answers::print(b"row of the deepest tree :");
     let mut out = [0u64; Row::NUMBERS];
     let answer = row_calls::row_call(
         b"(((((((((((((((((((((((((((((((((((((((((((((((((((((((((((((((1,2),3),4),5),6),7),8),9),10),11),12),13),14),15),16),17),18),19),20),21),22),23),24),25),26),27),28),29),30),31),32),33),34),35),36),37),38),39),40),41),42),43),44),45),46),47),48),49),50),51),52),53),54),55),56),57),58),59),60),61),62),63),64);",
@@ -127,13 +127,13 @@ fn pairs_of_rows() {
 // One element less than is asked for, with a text and a row that would be refused too.
 fn short_slices() {
     let mut numbers = [0u64; Row::NUMBERS - 1];
-    super::print(b"63 numbers for a row :");
+    answers::print(b"63 numbers for a row :");
     let answer = row_calls::row_call(b"", &mut numbers);
     print_row(answer, &numbers);
     let mut bytes = [0u8; Tree::FORM_BYTES - 1];
-    super::print(b"308 bytes for the text of a row : ");
+    answers::print(b"308 bytes for the text of a row : ");
     let answer = row_calls::row_text_call(&[3u64], &mut bytes);
-    super::print_text(answer, &bytes);
+    answers::print_text(answer, &bytes);
 }
 
 pub fn rows() {

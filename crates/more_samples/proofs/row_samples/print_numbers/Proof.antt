@@ -1,16 +1,16 @@
--- `samples::listing_samples::print_counts` meets its contract.
+-- `more_samples::row_samples::print_numbers` meets its contract.
 -- Assumes nothing.
 use Prim.Native.Nat.{_≤_, _-_}
 use borrow.Author.Needs.{needs}
 use lib.ListN.{length}
-use Rattle.samples.proofs.listing_samples.print_counts.Statement.{statement}
-use Rattle.samples.proofs.listing_samples.print_counts.Tie as tie
+use Rattle.more_samples.proofs.row_samples.print_numbers.Statement.{statement}
+use Rattle.more_samples.proofs.row_samples.print_numbers.Tie as tie
 
 abbrev Inv-loop : tie.InvT-loop
-Inv-loop counts number i₀ t4 i = i ≤ length counts
+Inv-loop numbers n k₀ t4 k = k ≤ length numbers
 
 abbrev μ-loop : tie.MeasureT-loop
-μ-loop counts number i₀ t4 i = length counts - i
+μ-loop numbers n k₀ t4 k = length numbers - k
 
 loop-holds : tie.Need-loop-holds Inv-loop μ-loop
 loop-holds c = search needs
@@ -21,20 +21,17 @@ slice-aggregate-print c = search needs
 print-requires : tie.Need-print-requires Inv-loop μ-loop
 print-requires c κs = search needs
 
-mul-wide : tie.Need-mul-wide Inv-loop μ-loop
-mul-wide c = search needs
+mul-print-number : tie.Need-mul-print-number Inv-loop μ-loop
+mul-print-number c = search needs
 
-shared-slice-read-wide : tie.Need-shared-slice-read-wide Inv-loop μ-loop
-shared-slice-read-wide c = search needs
-
-wide-requires : tie.Need-wide-requires Inv-loop μ-loop
-wide-requires c κs = search needs
+shared-slice-read-print-number : tie.Need-shared-slice-read-print-number Inv-loop μ-loop
+shared-slice-read-print-number c = search needs
 
 print-number-requires : tie.Need-print-number-requires Inv-loop μ-loop
 print-number-requires c κs = search needs
 
-add-i : tie.Need-add-i Inv-loop μ-loop
-add-i c = search needs
+add-k : tie.Need-add-k Inv-loop μ-loop
+add-k c = search needs
 
 loop-less : tie.Need-loop-less Inv-loop μ-loop
 loop-less c = search needs
@@ -45,8 +42,8 @@ loop-again c = search needs
 returns : tie.Need-returns Inv-loop μ-loop
 returns c = search needs
 
-pub print-counts-spec : {M : Type 1} → statement M
-print-counts-spec =
+pub print-numbers-spec : {M : Type 1} → statement M
+print-numbers-spec =
     tie.close
     (tie.spec
     Inv-loop
@@ -54,11 +51,10 @@ print-counts-spec =
     loop-holds
     slice-aggregate-print
     print-requires
-    mul-wide
-    shared-slice-read-wide
-    wide-requires
+    mul-print-number
+    shared-slice-read-print-number
     print-number-requires
-    add-i
+    add-k
     loop-less
     loop-again
     returns)

@@ -11,10 +11,10 @@ fn print_pairs(pairs: &[u16], number: usize) {
     let mut m = 0;
     while m < pairs.len() / 2 {
         if m < number {
-            super::print(b" ");
-            super::print_number(super::wide(pairs[2 * m]));
-            super::print(b"-");
-            super::print_number(super::wide(pairs[2 * m + 1]));
+            answers::print(b" ");
+            answers::print_number(super::wide(pairs[2 * m]));
+            answers::print(b"-");
+            answers::print_number(super::wide(pairs[2 * m + 1]));
         }
         m += 1;
     }
@@ -25,18 +25,18 @@ pub fn print_counts(counts: &[u16], number: usize) {
     let mut i = 0;
     while i < counts.len() {
         if i < number {
-            super::print(b" ");
-            super::print_number(super::wide(counts[i]));
+            answers::print(b" ");
+            answers::print_number(super::wide(counts[i]));
         }
         i += 1;
     }
 }
 
 fn print_lists(trees: usize, number: usize, pairs: &[u16], counts: &[u16]) {
-    super::print_number(trees);
-    super::print(b" trees, pairs");
+    answers::print_number(trees);
+    answers::print(b" trees, pairs");
     print_pairs(pairs, number);
-    super::print(b", counts");
+    answers::print(b", counts");
     print_counts(counts, trees);
 }
 
@@ -55,11 +55,11 @@ fn chosen_graph(text: &[u8], copies: Copies) {
     match answer {
         GraphAnswer::Listed(trees, number) => {
             print_lists(trees, number, &pairs, &counts);
-            super::print(b", firsts");
+            answers::print(b", firsts");
             print_counts(&firsts, trees);
-            super::print(b"\n");
+            answers::print(b"\n");
         }
-        GraphAnswer::Refused(x) => super::print_refusal(x),
+        GraphAnswer::Refused(x) => answers::print_refusal(x),
     }
 }
 
@@ -70,9 +70,9 @@ fn interchanges(text: &[u8]) {
     match answer {
         GraphAnswer::Listed(trees, number) => {
             print_lists(trees, number, &pairs, &counts);
-            super::print(b"\n");
+            answers::print(b"\n");
         }
-        GraphAnswer::Refused(x) => super::print_refusal(x),
+        GraphAnswer::Refused(x) => answers::print_refusal(x),
     }
 }
 
@@ -91,36 +91,36 @@ fn islands(text: &[u8]) {
     );
     match answer {
         GraphAnswer::Listed(trees, number) => {
-            super::print_number(trees);
-            super::print(b" trees, ");
-            super::print_number(number);
-            super::print(b" pairs, islands");
+            answers::print_number(trees);
+            answers::print(b" trees, ");
+            answers::print_number(number);
+            answers::print(b" pairs, islands");
             print_counts(&numbers, trees);
-            super::print(b"\n");
+            answers::print(b"\n");
         }
-        GraphAnswer::Refused(x) => super::print_refusal(x),
+        GraphAnswer::Refused(x) => answers::print_refusal(x),
     }
 }
 
 // What the islands program prints; it ends each of its lines itself.
 fn print_island_sheet(text: &[u8]) {
     let mut out = [0u8; IslandSheet::MAX_BYTES];
-    super::print(b"sheet of islands :\n");
+    answers::print(b"sheet of islands :\n");
     let n = sheet::print_islands(text, &mut out);
-    super::print(&out[..n]);
+    answers::print(&out[..n]);
 }
 
 // What the calls that list pairs give for a table.
 fn graph(text: &[u8]) {
-    super::print(b"graph ");
-    super::print(text);
-    super::print(b" : ");
+    answers::print(b"graph ");
+    answers::print(text);
+    answers::print(b" : ");
     chosen_graph(text, Copies::Merged);
-    super::print(b"copies kept apart : ");
+    answers::print(b"copies kept apart : ");
     chosen_graph(text, Copies::KeptApart);
-    super::print(b"interchanges : ");
+    answers::print(b"interchanges : ");
     interchanges(text);
-    super::print(b"islands : ");
+    answers::print(b"islands : ");
     islands(text);
     print_island_sheet(text);
 }
@@ -128,13 +128,13 @@ fn graph(text: &[u8]) {
 // A sheet ends each of its lines itself.
 fn print_sheet(text: &[u8]) {
     let mut out = [0u8; Sheet::MAX_BYTES];
-    super::print(b"sheet ");
-    super::print(text);
-    super::print(b" :\n");
+    answers::print(b"sheet ");
+    answers::print(text);
+    answers::print(b" :\n");
     let answer = listing_calls::sheet_call(text, &mut out);
     match answer {
-        TextAnswer::Written(n) => super::print_first(&out, n),
-        TextAnswer::Refused(x) => super::print_refusal(x),
+        TextAnswer::Written(n) => answers::print_first(&out, n),
+        TextAnswer::Refused(x) => answers::print_refusal(x),
     }
 }
 

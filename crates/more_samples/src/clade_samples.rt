@@ -9,11 +9,11 @@ fn print_clades(clades: &[u64], numbers: &[u16], number: usize) {
     while k < clades.len() {
         if k < number {
             if k < numbers.len() {
-                super::print(b" ");
-                super::print_number(clades[k] as usize);
-                super::print(b" in ");
-                super::print_number(super::wide(numbers[k]));
-                super::print(b",");
+                answers::print(b" ");
+                answers::print_number(clades[k] as usize);
+                answers::print(b" in ");
+                answers::print_number(super::wide(numbers[k]));
+                answers::print(b",");
             }
         }
         k += 1;
@@ -24,20 +24,20 @@ fn support(text: &[u8]) {
     let mut clades = [0u64; Pool::DISTINCT];
     let mut numbers = [0u16; Pool::DISTINCT];
     let mut out = [0u8; Tree::FORM_BYTES];
-    super::print(b"support ");
-    super::print(text);
-    super::print(b" : ");
+    answers::print(b"support ");
+    answers::print(text);
+    answers::print(b" : ");
     let answer = clade_calls::support_call(text, &mut clades, &mut numbers, &mut out);
     match answer {
         SupportAnswer::Listed(number, bytes, trees) => {
-            super::print_number(trees);
-            super::print(b" trees, clades");
+            answers::print_number(trees);
+            answers::print(b" trees, clades");
             print_clades(&clades, &numbers, number);
-            super::print(b" majority ");
-            super::print_first(&out, bytes);
-            super::print(b"\n");
+            answers::print(b" majority ");
+            answers::print_first(&out, bytes);
+            answers::print(b"\n");
         }
-        SupportAnswer::Refused(x) => super::print_refusal(x),
+        SupportAnswer::Refused(x) => answers::print_refusal(x),
     }
 }
 

@@ -18,8 +18,8 @@ fn print_rows(rows: &[f64], number: usize) {
     let mut i = 0;
     while i < rows.len() {
         if i < number {
-            super::print(b" ");
-            super::print_number(parts(rows[i]));
+            answers::print(b" ");
+            answers::print_number(parts(rows[i]));
         }
         i += 1;
     }
@@ -28,23 +28,23 @@ fn print_rows(rows: &[f64], number: usize) {
 fn print_plot(answer: TextAnswer, rows: &[f64], columns: &[u16]) {
     match answer {
         TextAnswer::Written(n) => {
-            super::print_number(n);
-            super::print(b" nodes, columns");
+            answers::print_number(n);
+            answers::print(b" nodes, columns");
             super::listing_samples::print_counts(columns, n);
-            super::print(b", rows in 1024ths");
+            answers::print(b", rows in 1024ths");
             print_rows(rows, n);
-            super::print(b"\n");
+            answers::print(b"\n");
         }
-        TextAnswer::Refused(x) => super::print_refusal(x),
+        TextAnswer::Refused(x) => answers::print_refusal(x),
     }
 }
 
 fn plot(text: &[u8]) {
     let mut rows = [0.0f64; Tree::MAX_NODES];
     let mut columns = [0u16; Tree::MAX_NODES];
-    super::print(b"plot ");
-    super::print(text);
-    super::print(b" : ");
+    answers::print(b"plot ");
+    answers::print(text);
+    answers::print(b" : ");
     let answer = plot_calls::plot_call(text, &mut rows, &mut columns);
     print_plot(answer, &rows, &columns);
 }
@@ -55,10 +55,10 @@ fn short_slices() {
     let mut columns = [0u16; Tree::MAX_NODES];
     let mut few_rows = [0.0f64; Tree::MAX_NODES - 1];
     let mut few_columns = [0u16; Tree::MAX_NODES - 1];
-    super::print(b"126 rows for a plot : ");
+    answers::print(b"126 rows for a plot : ");
     let answer = plot_calls::plot_call(b"", &mut few_rows, &mut columns);
     print_plot(answer, &few_rows, &columns);
-    super::print(b"126 columns for a plot : ");
+    answers::print(b"126 columns for a plot : ");
     let other = plot_calls::plot_call(b"", &mut rows, &mut few_columns);
     print_plot(other, &rows, &few_columns);
 }

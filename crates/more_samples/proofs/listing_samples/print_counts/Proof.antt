@@ -1,16 +1,16 @@
--- `samples::plot_samples::print_rows` meets its contract.
+-- `more_samples::listing_samples::print_counts` meets its contract.
 -- Assumes nothing.
 use Prim.Native.Nat.{_≤_, _-_}
 use borrow.Author.Needs.{needs}
 use lib.ListN.{length}
-use Rattle.samples.proofs.plot_samples.print_rows.Statement.{statement}
-use Rattle.samples.proofs.plot_samples.print_rows.Tie as tie
+use Rattle.more_samples.proofs.listing_samples.print_counts.Statement.{statement}
+use Rattle.more_samples.proofs.listing_samples.print_counts.Tie as tie
 
 abbrev Inv-loop : tie.InvT-loop
-Inv-loop rows number i₀ t4 i = i ≤ length rows
+Inv-loop counts number i₀ t4 i = i ≤ length counts
 
 abbrev μ-loop : tie.MeasureT-loop
-μ-loop rows number i₀ t4 i = length rows - i
+μ-loop counts number i₀ t4 i = length counts - i
 
 loop-holds : tie.Need-loop-holds Inv-loop μ-loop
 loop-holds c = search needs
@@ -21,14 +21,14 @@ slice-aggregate-print c = search needs
 print-requires : tie.Need-print-requires Inv-loop μ-loop
 print-requires c κs = search needs
 
-mul-parts : tie.Need-mul-parts Inv-loop μ-loop
-mul-parts c = search needs
+mul-wide : tie.Need-mul-wide Inv-loop μ-loop
+mul-wide c = search needs
 
-shared-slice-read-parts : tie.Need-shared-slice-read-parts Inv-loop μ-loop
-shared-slice-read-parts c = search needs
+shared-slice-read-wide : tie.Need-shared-slice-read-wide Inv-loop μ-loop
+shared-slice-read-wide c = search needs
 
-parts-requires : tie.Need-parts-requires Inv-loop μ-loop
-parts-requires c κs = search needs
+wide-requires : tie.Need-wide-requires Inv-loop μ-loop
+wide-requires c κs = search needs
 
 print-number-requires : tie.Need-print-number-requires Inv-loop μ-loop
 print-number-requires c κs = search needs
@@ -45,8 +45,8 @@ loop-again c = search needs
 returns : tie.Need-returns Inv-loop μ-loop
 returns c = search needs
 
-pub print-rows-spec : {M : Type 1} → statement M
-print-rows-spec =
+pub print-counts-spec : {M : Type 1} → statement M
+print-counts-spec =
     tie.close
     (tie.spec
     Inv-loop
@@ -54,9 +54,9 @@ print-rows-spec =
     loop-holds
     slice-aggregate-print
     print-requires
-    mul-parts
-    shared-slice-read-parts
-    parts-requires
+    mul-wide
+    shared-slice-read-wide
+    wide-requires
     print-number-requires
     add-i
     loop-less
