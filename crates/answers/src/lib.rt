@@ -1,55 +1,53 @@
+#![tactic(auto)]
 // What the test programs print of an answer.
 use calls::{PairAnswer, TextAnswer};
-use libc::STDOUT_FILENO;
+use std::io;
 use tokens::Refusal;
 
-pub fn print(text: &[u8]) {
-    io::write_all(STDOUT_FILENO, text);
+pub fn print(rt: &impl Print, text: &[u8]) -> io::Result<()> {
+    rt.write_all(text)
 }
 
-pub fn print_number(n: usize) {
-    io::print_decimal(STDOUT_FILENO, n as u64);
+pub fn print_number(rt: &impl Print, n: usize) -> io::Result<()> {
+    print!(rt; "{n}")
 }
 
 // The first n bytes of a slice, which has as many.
-pub fn print_first(text: &[u8], n: usize) {
+pub fn print_first(rt: &impl Print, text: &[u8], n: usize) -> io::Result<()> {
     if n <= text.len() {
-        io::write_all(STDOUT_FILENO, &text[..n]);
+        rt.write_all(&text[..n])?;
     }
+    Ok(())
 }
 
-pub fn print_refusal(x: Refusal) {
-    print(b"refused ");
-    print_number(x.number as usize);
-    print(b" in ");
-    print_number(x.text as usize);
-    print(b" at ");
-    print_number(x.place);
-    print(b"\n");
+pub fn print_refusal(rt: &impl Print, x: Refusal) -> io::Result<()> {
+    let Refusal {
+        number,
+        text,
+        place,
+    } = x;
+    println!(rt; "refused {number} in {text} at {place}")
 }
 
-pub fn print_text(answer: TextAnswer, out: &[u8]) {
+pub fn print_text(rt: &impl Print, answer: TextAnswer, out: &[u8]) -> io::Result<()> {
     match answer {
         TextAnswer::Written(n) => {
-            print_first(out, n);
-            print(b"\n");
+            print_first(rt, out, n)?;
+            print(rt, b"\n")
         }
-        TextAnswer::Refused(x) => print_refusal(x),
+        TextAnswer::Refused(x) => print_refusal(rt, x),
     }
 }
 
-fn print_compared(said: &[u8], forests: usize) {
-    print(said);
-    print(b", compared ");
-    print_number(forests);
-    print(b"\n");
+fn print_compared(rt: &impl Print, said: &str, forests: usize) -> io::Result<()> {
+    println!(rt; "{said}, compared {forests}")
 }
 
 // Yes or no, and how many forests were compared.
-pub fn print_pair(answer: PairAnswer) {
+pub fn print_pair(rt: &impl Print, answer: PairAnswer) -> io::Result<()> {
     match answer {
-        PairAnswer::Yes(forests) => print_compared(b"yes", forests),
-        PairAnswer::No(forests) => print_compared(b"no", forests),
-        PairAnswer::Refused(x) => print_refusal(x),
+        PairAnswer::Yes(forests) => print_compared(rt, "yes", forests),
+        PairAnswer::No(forests) => print_compared(rt, "no", forests),
+        PairAnswer::Refused(x) => print_refusal(rt, x),
     }
 }

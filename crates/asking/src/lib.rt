@@ -1,3 +1,4 @@
+#![tactic(auto)]
 // Lists of neighbours, asked of an index: entries with one forest text stand side by side, and their trees are one move apart
 // or the same.
 ghost use Rattle.std.specs.Prelude.{◌≡◌, List, ℕ, ◌≤◌, ◌<◌, length};

@@ -1,3 +1,4 @@
+#![tactic(auto)]
 // Numbered entries with a key each: which is the last one before each that has the same key. Number 0 says that there is none.
 ghost use Rattle.std.specs.Prelude.{ℕ, ◌%◌, ◌≤◌, ◌≡◌, length};
 ghost use Rattle.chains.specs.Chains.{entries, slots, Last, HasKey, InSlot, Found, Findable};

@@ -1,3 +1,4 @@
+#![tactic(auto)]
 // Numbers beside the nodes of a held tree: each subtree's clade, label L at bit L - 1.
 ghost use Rattle.std.specs.Prelude.{◌≡◌, length};
 ghost use Rattle.meaning.specs.Tree.{Tree as Topology, canon};

@@ -9,7 +9,7 @@ use Prim.Native.Nat.{ℕ, ◌+◌}
 use lib.Dec.{T}
 use Rattle.meaning.specs.Limits.{max_label}
 use Rattle.meaning.specs.Lists.{member}
-use Rattle.meaning.specs.Tree.{Tree, leaf, fork, tip, Good, Canonical}
+use Rattle.meaning.specs.Tree.{Tree, leaf, fork, Good, Canonical}
 use Rattle.meaning.specs.Clade.{clade}
 use Rattle.meaning.proofs.Logic.{clash}
 use Rattle.meaning.proofs.Lists.{member-in, in-member}

@@ -1,3 +1,4 @@
+#![tactic(auto)]
 // A tree's forks by their clades, the clades of two or more labels: those of a held tree listed, and the labels of one. The
 // module `grown` finds a fork's first child among clades.
 pub mod grown;

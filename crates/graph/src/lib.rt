@@ -1,3 +1,4 @@
+#![tactic(auto)]
 // The graph of a table: listing and counting its linked positions.
 ghost use Rattle.std.specs.Prelude.{◌≡◌, ◌≤◌, ◌<◌};
 ghost use Rattle.meaning.specs.Limits.{max_trees};

@@ -98,7 +98,7 @@ which a b (suc i) h = go (ℕ_discrete i (length (cuts a))) (dec_lt i (length (c
 -- what a cut takes away is the run of bytes at its node
 pub cut_stands : {xs : List ℕ} {k : ℕ} {t : Tree} → Holds xs k t → (c : ℕ) → c < length (cuts t) → Holds xs (k + 1 + c) (cut_in t c).pruned
 cut_stands {t = leaf l} h c lt = absurd (omega arith)
-cut_stands {xs} {k} {t = fork a b} h c lt = go (cut_stands (children h).0) (cut_stands (children h).1) (which a b c lt)
+cut_stands {xs} {k} {t = fork a b} h c lt = go (cut_stands {k = k + 1} {t = a} (children h).0) (cut_stands {k = k + 1 + nodes a} {t = b} (children h).1) (which a b c lt)
   where
     at : {i j : ℕ} {x y : Cut} → y ≡ x → Holds xs i x.pruned → i ≡ j → Holds xs j y.pruned
     at e g p = rw (e, ← p) g

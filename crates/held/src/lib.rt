@@ -1,3 +1,4 @@
+#![tactic(auto)]
 // A held rooted binary tree: its nodes in preorder, one byte each. A leaf's byte is its label, 1 to 64; a fork's is 64 and
 // the number of leaves below it. A fork's first child is the next node, and a subtree is one run of bytes. And a table of them.
 // The module `turned` hangs an unrooted tree at its smallest label.
@@ -16,7 +17,7 @@ ghost use Rattle.meaning.specs.Copies.{firsts_of};
 pub use turned::hung;
 
 // Whether a tree has a root.
-#[derive(Drop)]
+#[derive(Clone, Copy)]
 pub enum Kind {
     Rooted,
     Unrooted,
@@ -24,7 +25,7 @@ pub enum Kind {
 
 // A tree in canonical order: equal bytes are equal topologies, and node number c + 1 is cut number c. An unrooted tree is held
 // as the rooted tree that stands for it, which hangs from its smallest label.
-#[derive(Drop)]
+#[derive(Clone, Copy)]
 pub struct Tree {
     pub node: [u8; Tree::MAX_NODES],
     pub kind: Kind,
@@ -96,7 +97,7 @@ impl Tree {
 }
 
 // The first `len` trees are the table's.
-#[derive(Drop)]
+#[derive(Clone, Copy)]
 pub struct Table {
     pub trees: [Tree; Table::MAX_TREES],
     pub len: usize,

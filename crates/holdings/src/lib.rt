@@ -1,1 +1,2 @@
+#![tactic(auto)]
 // The index of held trees: definitions in specs/, theorems in proofs/.

@@ -1,3 +1,4 @@
+#![tactic(auto)]
 // The public calls on an index in lent memory. None asks anything of its caller: what cannot be answered is refused, and a
 // refusal changes no lent cell.
 ghost use Rattle.std.specs.Prelude.{◌≡◌, true, List, ◌≤◌, length};

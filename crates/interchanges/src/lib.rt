@@ -1,3 +1,4 @@
+#![tactic(auto)]
 // The interchange test: whether two trees are one nearest-neighbour interchange apart.
 ghost use Rattle.meaning.specs.Tree.{Tree as Topology};
 ghost use Rattle.meaning.specs.Interchange.{Forks, OneInterchange};

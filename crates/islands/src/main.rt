@@ -1,16 +1,22 @@
+#![tactic(auto)]
 // The islands program: reads standard input to its end and prints a line for each island, or says on standard error that the
 // input could not be read, and prints nothing. One byte above the limit is enough to refuse the text; what stands behind the
-// buffer is not read.
+// buffer is not read. The status is 1 where standard input could not be read or standard output not written whole, and else 0.
 use console::Input;
+use held::Tree;
 use sheet::IslandSheet;
+use std::process::ExitCode;
 
-fn main() {
-    let mut text = io::large_buffer();
-    let input = console::read_input(&mut text);
+fn main(rt: HostRuntime) -> ExitCode {
+    let mut text = [0u8; Tree::TEXT_BYTES + 1];
+    let input = console::read_input(&rt, &mut text);
     let Input::Whole(length) = input else {
-        return;
+        return ExitCode::FAILURE;
     };
     let mut out = [0u8; IslandSheet::MAX_BYTES];
     let printed = sheet::print_islands(&text[..length], &mut out);
-    console::print(&out[..printed]);
+    if console::print(&rt, &out[..printed]).is_err() {
+        return ExitCode::FAILURE;
+    }
+    ExitCode::SUCCESS
 }

@@ -1,3 +1,4 @@
+#![tactic(auto)]
 // Lent memory: slices measured, and runs of elements copied, cleared, compared and counted.
 ghost use Rattle.std.specs.Prelude.{◌≡◌, ◌&&◌, ◌+◌, ◌-◌, ◌≤◌, leb, length, take, drop, replicate};
 ghost use Rattle.std.proofs.lemmas.List.Edits.{sets};

@@ -1,3 +1,4 @@
+#![tactic(auto)]
 // Which positions of a table are linked: first positions of topologies by a forest that they share or by a test of each two, and
 // copies as their firsts are.
 pub mod forests;
@@ -22,7 +23,7 @@ pub enum Link {
 }
 
 // What two trees are tried for: that they differ only by the place of the root in one subtree, or by one interchange.
-#[derive(Drop)]
+#[derive(Clone, Copy)]
 pub enum Test {
     Respun,
     Interchanged,

@@ -1,3 +1,4 @@
+#![tactic(auto)]
 // The majority tree of a table, written as text. Its clades stand at the front of the list of support.
 ghost use Rattle.std.specs.Prelude.{◌≡◌, List, ◌+◌, ◌*◌, ◌≤◌, ltb, length, take};
 ghost use Rattle.meaning.specs.Lists.{member};

@@ -12,7 +12,7 @@ use Rattle.meaning.specs.Listing.{Pair, Listing}
 use Rattle.meaning.specs.Copies.{merged, LinkedBy, MergedIslands}
 use Rattle.meaning.specs.Compared.{comparison}
 use Rattle.meaning.specs.Answer.{Answer, accepted, refusal, Outcome, Comparison, TableSize, TableMemory, GraphSize, IslandsMemory, text_of, conclude}
-use Rattle.meaning.specs.Calls.{form_call, cut_call, PairCall, stands_apart, not_apart, refuses, table_call, Lists, lists, IslandsCall, numbers, island_graph_of}
+use Rattle.meaning.specs.Calls.{form_call, cut_call, PairCall, stands_apart, not_apart, table_call, Lists, lists, IslandsCall, numbers, island_graph_of}
 use Rattle.meaning.specs.IslandSheet.{IslandSheetOf, shows_islands, IslandSheet, island_lines}
 use Rattle.meaning.specs.Sheet.{refusal_line, Printout, prints, sheet, SheetOf, shows_pairs, Sheet, sheet_given, SheetCall, gives}
 use Rattle.meaning.proofs.Logic.{clash}

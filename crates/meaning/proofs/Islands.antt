@@ -14,7 +14,7 @@ use lib.Seq.{ext_get_or}
 use Rattle.meaning.specs.Lists.{bit, upto}
 use Rattle.meaning.specs.Listing.{Pair, Listing}
 use Rattle.meaning.specs.Islands.{Joined, Chain, here, step, Island, Islands, size, renumbered, unite, unite_all, Within}
-use Rattle.meaning.proofs.Lists.{get_d_map, number}
+use Rattle.meaning.proofs.Lists.{get_d_map}
 use Rattle.meaning.proofs.Sums.{upto_add, upto-at, upto-const}
 
 -- ---- chains

@@ -151,15 +151,21 @@ module _ {t u : Tree} (D : Distinct t) (E : Distinct u) where
       from (inr k) = (k.0, inr k.1)
 
 -- where the first children are the same, the difference is in the second, and so the other way round
+second-apart : {a a' b c : Tree} → a ≡ a' → Distinct (fork a b) → Distinct (fork a' c) → Respun (fork a b) (fork a' c) → Respun b c
+second-apart {a} e D E (here h) = here (≈-splits (same-sides D E (subst (SameClade a) e (clade-refl a)) h).1)
+second-apart {b} e D E (Respun.in_first k) = here (≈-splits (≈-refl b))
+second-apart e D E (Respun.in_second k) = k
+
 second-differs : {a b c : Tree} → Distinct (fork a b) → Distinct (fork a c) → Respun (fork a b) (fork a c) → Respun b c
-second-differs {a} D E (here h) = here (≈-splits (same-sides D E (clade-refl a) h).1)
-second-differs {b} D E (Respun.in_first k) = here (≈-splits (≈-refl b))
-second-differs D E (Respun.in_second k) = k
+second-differs D E k = second-apart refl D E k
+
+first-apart : {a b b' c : Tree} → b ≡ b' → Distinct (fork a b) → Distinct (fork c b') → Respun (fork a b) (fork c b') → Respun a c
+first-apart {a} {b} {b'} {c} e D E (here h) = here (≈-splits (same-sides (turned D) (turned E) (subst (SameClade b) e (clade-refl b)) (splits-trans (≈-splits (flip b a)) (splits-trans h (≈-splits (flip c b'))))).1)
+first-apart e D E (Respun.in_first k) = k
+first-apart {a} e D E (Respun.in_second k) = here (≈-splits (≈-refl a))
 
 first-differs : {a b c : Tree} → Distinct (fork a b) → Distinct (fork c b) → Respun (fork a b) (fork c b) → Respun a c
-first-differs {a} {b} {c} D E (here h) = here (≈-splits (same-sides (turned D) (turned E) (clade-refl b) (splits-trans (≈-splits (flip b a)) (splits-trans h (≈-splits (flip c b))))).1)
-first-differs D E (Respun.in_first k) = k
-first-differs {a} D E (Respun.in_second k) = here (≈-splits (≈-refl a))
+first-differs D E k = first-apart refl D E k
 
 none-same : {a b c d : Tree} → a ≢ c → b ≢ d → Respun (fork a b) (fork c d) → SameSplits (fork a b) (fork c d)
 none-same n m (here h) = h

@@ -1,3 +1,4 @@
+#![tactic(auto)]
 // The calls for programs in C and Rust. None asks anything of its caller. Each answers by a result and lent numbers, two or, of
 // the support call, three: `coded` and `support_value` of the crate `replies` say which answer they are, and include/norbelath.h
 // says it to a caller.
@@ -61,8 +62,8 @@ pub extern "C" fn norbelath_table(
     first: &mut u64,
     second: &mut u64,
 ) -> u8
-    ensures { table_coded result first.new second.new texts.exit.now ends.new
-        ≡ table_call text.now (record { texts = texts.entry.now; ends = ends.old }) }
+    ensures { table_coded result first.new second.new texts.new ends.new
+        ≡ table_call text.now (record { texts = texts.old; ends = ends.old }) }
 {
     hand_back(
         table_reply(calls::table_call(text, texts, ends)),
@@ -83,8 +84,8 @@ pub extern "C" fn norbelath_graph_choosing(
     second: &mut u64,
 ) -> u8
     ensures { ChoosingCall (choice_coded choice) text.now
-        (record { graph = record { pairs = pairs.entry.now; counts = counts.old }; firsts = firsts.old })
-        (firsts_coded result first.new second.new pairs.exit.now counts.new firsts.new) }
+        (record { graph = record { pairs = pairs.old; counts = counts.old }; firsts = firsts.old })
+        (firsts_coded result first.new second.new pairs.new counts.new firsts.new) }
 {
     let copies = copies_of(choice);
     hand_back(
@@ -105,8 +106,8 @@ pub extern "C" fn norbelath_graph(
     second: &mut u64,
 ) -> u8
     ensures { GraphCall text.now
-        (record { graph = record { pairs = pairs.entry.now; counts = counts.old }; firsts = firsts.old })
-        (firsts_coded result first.new second.new pairs.exit.now counts.new firsts.new) }
+        (record { graph = record { pairs = pairs.old; counts = counts.old }; firsts = firsts.old })
+        (firsts_coded result first.new second.new pairs.new counts.new firsts.new) }
 {
     hand_back(
         graph_reply(listing_calls::graph_call(text, pairs, counts, firsts)),
@@ -124,8 +125,8 @@ pub extern "C" fn norbelath_interchanges(
     first: &mut u64,
     second: &mut u64,
 ) -> u8
-    ensures { InterchangeCall text.now (record { pairs = pairs.entry.now; counts = counts.old })
-        (graph_coded result first.new second.new pairs.exit.now counts.new) }
+    ensures { InterchangeCall text.now (record { pairs = pairs.old; counts = counts.old })
+        (graph_coded result first.new second.new pairs.new counts.new) }
 {
     hand_back(
         graph_reply(listing_calls::interchange_call(text, pairs, counts)),
@@ -147,10 +148,10 @@ pub extern "C" fn norbelath_islands(
 ) -> u8
     ensures { IslandsCall text.now
         (record {
-          lists = record { graph = record { pairs = pairs.entry.now; counts = counts.old }; firsts = firsts.old };
+          lists = record { graph = record { pairs = pairs.old; counts = counts.old }; firsts = firsts.old };
           islands = islands.old;
         })
-        (islands_coded result first.new second.new pairs.exit.now counts.new firsts.new islands.new) }
+        (islands_coded result first.new second.new pairs.new counts.new firsts.new islands.new) }
 {
     hand_back(
         graph_reply(listing_calls::islands_call(text, pairs, counts, firsts, islands)),

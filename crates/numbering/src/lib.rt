@@ -1,3 +1,4 @@
+#![tactic(auto)]
 // Islands: positions that chains of listed pairs join, and their copies. The number of each is the smallest position in it.
 ghost use Rattle.std.specs.Prelude.{◌≡◌, List, map, ◌≤◌, ◌<◌, length, take};
 ghost use Rattle.meaning.specs.Listing.{Pair};

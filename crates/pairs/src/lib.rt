@@ -1,3 +1,4 @@
+#![tactic(auto)]
 // The pair test: whether two trees are one move apart, and how many forests are compared to tell.
 pub mod remainders;
 

@@ -1,3 +1,4 @@
+#![tactic(auto)]
 // The public call that plots a tree. It asks nothing of its caller: what cannot be answered is refused, and a refusal changes no
 // lent cell.
 ghost use Rattle.std.specs.Prelude.{◌≡◌};

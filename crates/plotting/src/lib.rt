@@ -1,3 +1,4 @@
+#![tactic(auto)]
 // The plot of a held tree: where each of its nodes is drawn, and what is drawn for it.
 ghost use Rattle.std.specs.Prelude.{◌≡◌, ℕ, ◌≤◌, length};
 ghost use Rattle.meaning.specs.Limits.{max_nodes};

@@ -1,3 +1,4 @@
+#![tactic(auto)]
 // Fingerprints of a held tree's forests: equal forests have equal keys, whatever the order of children.
 ghost use Rattle.std.specs.Prelude.{◌≡◌, ◌+◌, ◌≤◌, length};
 ghost use Rattle.meaning.specs.Limits.{max_nodes};

@@ -1,3 +1,4 @@
+#![tactic(auto)]
 // Reads tree text: nodes and forks; the modules read a top, a tree and a text of one tree.
 mod tops;
 pub mod trees;
@@ -21,7 +22,7 @@ pub struct TreeRead {
 }
 
 // Which kinds of trees a call takes.
-#[derive(Drop)]
+#[derive(Clone, Copy)]
 pub enum Takes {
     Either,
     RootedOnly,

@@ -1,3 +1,4 @@
+#![tactic(auto)]
 // A tree taken out of an index in lent memory.
 ghost use Rattle.std.specs.Prelude.{◌≡◌, List, ◌+◌, ◌*◌, ◌≤◌, length};
 ghost use Rattle.meaning.specs.Answer.{written};

@@ -25,6 +25,7 @@ inverse_rule f (l ∷ ls) v = cond (eqb (f l) v) l (inverse_rule f ls v)
 -- is l, where f takes l to v and no other of them
 taken_back : (f : ℕ → ℕ) (ls : List ℕ) → ((l m : ℕ) → Memᴰ l ls → Memᴰ m ls → f l ≡ f m → l ≡ m) → (l : ℕ) → Memᴰ l ls → inverse_rule f ls (f l) ≡ l
 unfolding inverse_rule
+taken_back f [] once l n = elim n [ ]
 taken_back f (m ∷ ls) once l (Memᴰ.head e) = rw (eq-eqb (f m) (f l) (rw e refl)) (sym e)
 taken_back f (m ∷ ls) once l (Memᴰ.tail n) =
     cases (λ b. cond b m (inverse_rule f ls (f l)) ≡ l) (eqb (f m) (f l)) (λ e. once m l (Memᴰ.head refl) (Memᴰ.tail n) (eqb-true (f m) (f l) e))

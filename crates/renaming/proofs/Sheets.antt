@@ -11,7 +11,7 @@ use Rattle.meaning.specs.Listing.{Pair, Listing, At, unlinked}
 use Rattle.meaning.specs.Copies.{kept_apart}
 use Rattle.meaning.specs.Answer.{accepted}
 use Rattle.meaning.specs.Calls.{table_read}
-use Rattle.meaning.specs.Sheet.{Printout, prints, sheet, shows_pairs, Sheet}
+use Rattle.meaning.specs.Sheet.{Printout, prints, sheet, shows_pairs, Sheet, SheetOf}
 use Rattle.meaning.proofs.EitherKind.{AllStand}
 use Rattle.meaning.proofs.Unlinked.{unlinked-neighbours-copies}
 use Rattle.meaning.proofs.Stands.{given-stand}
@@ -32,9 +32,12 @@ use Rattle.renaming.proofs.Renaming.{sample, same-listing}
 -- the listing that a sheet shows
 has-printed : {s x : List ℕ} {table : Trees} → table_read either s ≡ accepted table → Sheet s x
     → (ps : List Pair) × (x ≡ sheet table ps) × Listing (length table.trees) (At (ApartAs table.kind) table.trees) ps
-has-printed e (prints t x h (shows_pairs ps L)) =
-    let y = same-accepted h e in
-    (ps, ap (λ (v : Trees). sheet v ps) y, subst (λ (v : Trees). Listing (length v.trees) (At (ApartAs v.kind) v.trees) ps) y L)
+has-printed {s} {table} e (prints t x h w) = shown t x h w
+  where
+    shown : (t : Trees) (x : List ℕ) → table_read either s ≡ accepted t → SheetOf t x → (ps : List Pair) × (x ≡ sheet table ps) × Listing (length table.trees) (At (ApartAs table.kind) table.trees) ps
+    shown t x h (shows_pairs ps L) =
+        let y = same-accepted h e in
+        (ps, ap (λ (v : Trees). sheet v ps) y, subst (λ (v : Trees). Listing (length v.trees) (At (ApartAs v.kind) v.trees) ps) y L)
 has-printed e (Printout.refuses n i p h) = absurd (not-both e h)
 
 -- copies of one sample's trees are copies

@@ -18,7 +18,7 @@ pub struct LongReply {
 
 // The refusal's number, which text, the place, and 0.
 fn long_refused(x: Refusal) -> LongReply
-    ensures* { λ r. ⌜ r ≡ record { result = x.number; first = x.text; second = x.place; third = 0 } ⌝ }
+    ensures { result ≡ record { result = x.number; first = x.text; second = x.place; third = 0 } }
 {
     LongReply {
         result: x.number,

@@ -1,3 +1,4 @@
+#![tactic(auto)]
 // Answers as programs in C and Rust get them: a result and two numbers, or, of the support call, three. `coded` and `support_value`
 // in specs/ say which answer they are.
 pub mod clade_replies;
@@ -26,7 +27,7 @@ pub struct Reply {
 
 // Result 0, and two numbers that say what is accepted.
 fn accepted(first: usize, second: usize) -> Reply
-    ensures* { λ r. ⌜ r ≡ record { result = 0; first = first; second = second } ⌝ }
+    ensures { result ≡ record { result = 0; first = first; second = second } }
 {
     Reply {
         result: 0,
@@ -37,7 +38,7 @@ fn accepted(first: usize, second: usize) -> Reply
 
 // The refusal's number, which text and the place.
 fn refused(x: Refusal) -> Reply
-    ensures* { λ r. ⌜ r ≡ record { result = x.number; first = x.text; second = x.place } ⌝ }
+    ensures { result ≡ record { result = x.number; first = x.text; second = x.place } }
 {
     Reply {
         result: x.number,
@@ -89,7 +90,7 @@ pub fn graph_reply(answer: GraphAnswer) -> Reply
 
 // A reply as the result and the lent numbers.
 pub fn hand_back(reply: Reply, first: &mut u64, second: &mut u64) -> u8
-    ensures* { λ r. ⌜ record { result = r; first = first.new; second = second.new } ≡ reply ⌝ }
+    ensures { record { result = result; first = first.new; second = second.new } ≡ reply }
 {
     *first = reply.first;
     *second = reply.second;

@@ -78,10 +78,10 @@ module _ {row before last : List ℕ} {place c at len : ℕ} (G : GrowRoom row b
   here = (G.placed.stands some).1
 
   member : Memᴰ c cs
-  member = subst (λ (x : ℕ). Memᴰ x cs) here (row_in row G.is_row place some inside)
+  member = subst (λ (x : ℕ). Memᴰ x cs) here (row_in row G.a_row place some inside)
 
   pub placed-large : 2 ≤ size c
-  placed-large = row-large row G.is_row member
+  placed-large = row-large row G.a_row member
 
   noted-before : get_or before place 0 ≡ last_place row place (lowest c)
   noted-before = G.noted.before_is place some inside ∙ ap (λ (x : ℕ). last_place row place (lowest x)) here
@@ -89,17 +89,17 @@ module _ {row before last : List ℕ} {place c at len : ℕ} (G : GrowRoom row b
   pub placed_first : clade_at row (get_or before place 0) c ≡ first_child cs c
   placed_first =
       ap (λ (p : ℕ). clade_at row p c) noted-before
-      ∙ subst (λ (x : ℕ). clade_at row (last_place row place (lowest x)) x ≡ first_child cs x) here (row_first row G.is_row place some inside)
+      ∙ subst (λ (x : ℕ). clade_at row (last_place row place (lowest x)) x ≡ first_child cs x) here (row_first row G.a_row place some inside)
 
   pub first-placed : {f : ℕ} → f ≡ first_child cs c → Placed row (get_or before place 0) f
-  first-placed e = rw (noted-before, e) (subst (λ (x : ℕ). Placed row (last_place row place (lowest x)) (first_child cs x)) here (row-first-placed row G.is_row place some inside))
+  first-placed e = rw (noted-before, e) (subst (λ (x : ℕ). Placed row (last_place row place (lowest x)) (first_child cs x)) here (row-first-placed row G.a_row place some inside))
 
   pub first-inside : get_or before place 0 < length row
   first-inside = go (dec_lt 0 (get_or before place 0))
     where
       go : Dec (0 < get_or before place 0) → get_or before place 0 < length row
       go (yes h) = ((first-placed refl).stands h).0
-      go (no n) = omega (arith, row-some row G.is_row)
+      go (no n) = omega (arith, row-some row G.a_row)
 
   pub second-placed : {f : ℕ} → f ≡ first_child cs c → (n : ℕ) → n ≡ lowest (c - f) → lowest (c - f) ≤ max_label → Placed row (get_or last (n - 1) 0) (c - f)
-  second-placed {f} e n q h = rw (noted-last G.noted (c - f) n q h) (rw e (row-second-placed row G.is_row c member))
+  second-placed {f} e n q h = rw (noted-last G.noted (c - f) n q h) (rw e (row-second-placed row G.a_row c member))

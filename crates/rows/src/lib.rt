@@ -1,3 +1,4 @@
+#![tactic(auto)]
 // Rows: a rooted tree as its label set and its clades of two or more labels in ascending order. Whether numbers are a row; the
 // module `grown` makes the tree of a row, and `written` the row of a tree.
 pub mod grown;

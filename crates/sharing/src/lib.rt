@@ -1,3 +1,4 @@
+#![tactic(auto)]
 // Which first positions have trees that share a forest. Each cut of each first tree is an entry, with the fingerprint of its forest
 // as its key. Only entries with equal keys are compared, and these exactly, where their trees stand.
 ghost use Rattle.std.specs.Prelude.{List, ℕ};

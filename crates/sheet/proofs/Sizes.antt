@@ -14,10 +14,10 @@ use Rattle.meaning.specs.Tree.{digits, AllGood}
 use Rattle.meaning.specs.Kind.{Trees, either}
 use Rattle.meaning.specs.EitherKind.{ApartAs}
 use Rattle.meaning.specs.Listing.{Pair, Listing, At, neighbours, unlinked}
-use Rattle.meaning.specs.Answer.{refusal, Outcome}
+use Rattle.meaning.specs.Answer.{accepted, refusal, Outcome}
 use Rattle.meaning.specs.Calls.{table_read}
-use Rattle.meaning.specs.Sheet.{refusal_line, Printout, prints, first_line, tree_line_of, tree_lines, pair_line, pair_lines, sheet, shows_pairs, Sheet, SheetCall}
-use Rattle.meaning.specs.IslandSheet.{island_line, line_at, island_lines, shows_islands, IslandSheet}
+use Rattle.meaning.specs.Sheet.{refusal_line, Printout, prints, first_line, tree_line_of, tree_lines, pair_line, pair_lines, sheet, shows_pairs, SheetOf, Sheet, SheetCall}
+use Rattle.meaning.specs.IslandSheet.{island_line, line_at, island_lines, shows_islands, IslandSheetOf, IslandSheet}
 use Rattle.meaning.specs.Islands.{size}
 use Rattle.meaning.proofs.Lists.{every-mem}
 use Rattle.meaning.proofs.Lent.{eight}
@@ -104,7 +104,10 @@ refusal-fits s {n} {i} {p} e =
 
 -- what is printed for any text
 pub sheet-fits : {s x : List ℕ} → Sheet s x → length x ≤ sheet_bytes
-sheet-fits {s} (prints ts x e (shows_pairs ps L)) = let r = tells-accepted (table-tells either s) e in sheet-short ts ps r.good L (given-few r)
+sheet-fits {s} (prints ts x e w) = short ts x e w
+  where
+    short : (ts : Trees) (x : List ℕ) → table_read either s ≡ accepted ts → SheetOf ts x → length x ≤ sheet_bytes
+    short ts x e (shows_pairs ps L) = let r = tells-accepted (table-tells either s) e in sheet-short ts ps r.good L (given-few r)
 sheet-fits {s} (Printout.refuses n i p e) = omega (arith, refusal-fits s e)
 
 -- ---- islands
@@ -124,7 +127,10 @@ islands-short ms few =
     rw lines_rows (omega (arith, rows-length (line_at ms) island_line_bytes 0 ms (λ i x m h. line-short ms i x (omega arith) (omega arith)), few))
 
 pub island-sheet-fits : {s x : List ℕ} → IslandSheet s x → length x ≤ island_sheet_bytes
-island-sheet-fits {s} (prints ts x e (shows_islands ps ms L I)) = islands-short ms (omega (arith, I.many, given-few (tells-accepted (table-tells either s) e)))
+island-sheet-fits {s} (prints ts x e w) = short ts x e w
+  where
+    short : (ts : Trees) (x : List ℕ) → table_read either s ≡ accepted ts → IslandSheetOf ts x → length x ≤ island_sheet_bytes
+    short ts x e (shows_islands ps ms L I) = islands-short ms (omega (arith, I.many, given-few (tells-accepted (table-tells either s) e)))
 island-sheet-fits {s} (Printout.refuses n i p e) = omega (arith, refusal-fits s e)
 
 -- so the sheet call keeps the length of what it is lent

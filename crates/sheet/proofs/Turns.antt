@@ -31,6 +31,7 @@ trees-rows ts ps i [] = refl
 trees-rows ts ps i (u ∷ us) = ap (λ (l : List ℕ). tree_line_of ts ps i u ++ l) (trees-rows ts ps (suc i) us)
 
 pub good-one : (ts : List Topology) → AllGood ts → {t : Topology} → Memᴰ t ts → Good t
+good-one [] G k = elim k [ ]
 good-one (t ∷ ts) G (Memᴰ.head e) = rw e G.0
 good-one (t ∷ ts) G (Memᴰ.tail m) = good-one ts G.1 m
 

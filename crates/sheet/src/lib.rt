@@ -1,3 +1,4 @@
+#![tactic(auto)]
 // The pair lister's sheet, and in the module `islands` that of islands, written into lent memory: each function returns the
 // place behind what it wrote.
 pub mod islands;

@@ -1,3 +1,4 @@
+#![tactic(auto)]
 // Whether the slots of an index in lent memory are those of some set of held trees: each free or with a tree in canonical order,
 // and one label set.
 ghost use Rattle.std.specs.Prelude.{◌≡◌, ◌≤◌, length, get_or};

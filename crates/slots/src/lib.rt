@@ -1,3 +1,4 @@
+#![tactic(auto)]
 // The slots of an index in lent memory: one for each number, a tree's bytes or zeros. Here they are read.
 ghost use Rattle.std.specs.Prelude.{◌≡◌, List, ◌≤◌, ◌<◌, length};
 ghost use Rattle.meaning.specs.Limits.{max_trees};

@@ -20,7 +20,7 @@ use Rattle.meaning.specs.Sorted.{put, Sorted}
 use Rattle.families.specs.Support.{by_labels}
 use Rattle.families.proofs.Support.{labels-strict}
 use Rattle.sorting.specs.Sort.{InOrder}
-use Rattle.support.specs.Counted.{firsts, sizes_from, sizes, CountRoom, Counted, beside}
+use Rattle.support.specs.Counted.{firsts, sizes_from, sizes, CountRoom, Counted}
 
 -- ---- one step of each list
 firsts_same : (x y : ℕ) (ys : List ℕ) → x ≡ y → firsts (x ∷ y ∷ ys) ≡ firsts (y ∷ ys)

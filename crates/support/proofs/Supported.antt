@@ -41,6 +41,7 @@ count-some c (x ∷ xs) h = go (ℕ_discrete c x) (count-some c xs)
     go (no d) f = Memᴰ.tail (f (omega (arith, h, count_no c x xs d)))
 
 some-count : (c : ℕ) (xs : List ℕ) → Memᴰ c xs → 0 < count (eqb c) xs
+some-count c [] x' = elim x' [ ]
 some-count c (x ∷ xs) (Memᴰ.head e) = omega (arith, count_yes c x xs e)
 some-count c (x ∷ xs) (Memᴰ.tail m) = omega (arith, some-count c xs m)
 

@@ -1,3 +1,4 @@
+#![tactic(auto)]
 // Clade support: the clades of a table's trees with the number of trees that have each, listed.
 pub mod counted;
 pub mod gather;

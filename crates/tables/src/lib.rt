@@ -1,3 +1,4 @@
+#![tactic(auto)]
 // Reads a text of many trees, each of which has to fit beside the first; the module `limited` reads a text for a call.
 pub mod limited;
 

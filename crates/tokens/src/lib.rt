@@ -1,3 +1,4 @@
+#![tactic(auto)]
 // Reads the tokens of tree text: blanks, labels and single bytes; the module reads a mark.
 pub mod marks;
 
@@ -11,7 +12,7 @@ use held::Tree;
 pub use marks::read_mark;
 
 // A line of the refusal list: its number, which text (0, or 1 for the second of a pair) and the place.
-#[derive(Drop)]
+#[derive(Clone, Copy)]
 pub struct Refusal {
     pub number: u8,
     pub text: u8,
@@ -47,7 +48,7 @@ impl Refusal {
 }
 
 // Where reading goes on in the text and among the nodes, or why it ends.
-#[derive(Drop)]
+#[derive(Clone, Copy)]
 pub enum Step {
     Next(usize, usize),
     Refused(Refusal),

@@ -1,3 +1,4 @@
+#![tactic(auto)]
 // The unrooted pair test, on the rooted trees that stand for unrooted ones: whether two are one unrooted move apart.
 pub mod leftmost;
 

@@ -1,3 +1,4 @@
+#![tactic(auto)]
 // Numbers, lines, canonical texts and forest texts, written into lent memory: each function returns the place behind what it wrote.
 ghost use Rattle.std.specs.Prelude.{[], ◌∷◌, ◌++◌, ◌+◌, ◌≤◌, length};
 ghost use Rattle.meaning.specs.Tree.{Tree as Topology, digits, write, canon};

@@ -12,72 +12,69 @@ use Rattle.asking.proofs.Marking.{MetBelow, met-none, met_next, met_all}
 use Rattle.asking.proofs.mark_met.Statement.{statement}
 use Rattle.asking.proofs.mark_met.Tie as tie
 
-abbrev invariant-loop : tie.invariant-loop
+abbrev invariant-loop : tie.invariant-loop-c
 invariant-loop marks₀ memory x n c₀ c-end marks c = (c ≤ c-end) × ((hs : List Slot) → IsIndex hs memory → Marks (MetBelow hs x c) marks₀ marks)
 
-abbrev decreases-loop : tie.decreases-loop
+abbrev decreases-loop : tie.decreases-loop-c
 decreases-loop marks₀ memory x n c₀ c-end marks c = c-end - c
 
 -- the function's entry, from the head of the loop
-abbrev start : tie.At-loop invariant-loop decreases-loop → tie.Start invariant-loop decreases-loop
+abbrev start : tie.At-loop-c invariant-loop decreases-loop → tie.Start invariant-loop decreases-loop
 start c = c.before.before.before.before
 
 -- the slots stand in memory
 shelves : (s : tie.Start invariant-loop decreases-loop) → Shelved s.requires.0.valid.slots s.args.memory.now
 shelves s = index-shelved s.requires.0.long s.requires.0.valid.index
 
-count-requires : tie.Need-count-requires invariant-loop decreases-loop
-count-requires c κs = record { slots = c.before.requires.0.valid.slots; shelved = shelves c.before }
+count-requires : tie.Need-count-n-requires invariant-loop decreases-loop
+count-requires c κs = record { slots = c.requires.0.valid.slots; shelved = shelves c.before }
 
-cuts-requires : tie.Need-cuts-requires invariant-loop decreases-loop
-cuts-requires c κs = let s = c.before.before in (record { slots = s.requires.0.valid.slots; shelved = shelves s }, s.requires.0.inside)
+cuts-requires : tie.Need-cuts-c-end-requires invariant-loop decreases-loop
+cuts-requires c κs = let s = c.before.before in (record { slots = c.requires.0.valid.slots; shelved = shelves s }, c.requires.0.inside)
 
-loop-holds : tie.Need-loop-init invariant-loop decreases-loop
+loop-holds : tie.Need-loop-c-init invariant-loop decreases-loop
 loop-holds c = (omega arith, λ hs I. met-none hs _ _)
 
-text-of-requires : tie.Need-text-of-requires invariant-loop decreases-loop
+text-of-requires : tie.Need-text_of-requires invariant-loop decreases-loop
 text-of-requires c κs =
     let i = c.before in
     let s = start i.before in
-    record { slots = s.pre.0.valid.slots; shelved = shelves s; entry = omega (arith, i.loop-test.true, i.before.before.cuts.ensures s.pre.0.valid.slots (shelves s)) }
+    record { slots = s.requires.0.valid.slots; shelved = shelves s; entry = omega (arith, c.loop-c-test.true, c.cuts-c-end.ensures s.requires.0.valid.slots (shelves s)) }
 
-mark-text-requires : tie.Need-mark-text-requires invariant-loop decreases-loop
+mark-text-requires : tie.Need-mark_text-requires invariant-loop decreases-loop
 mark-text-requires c κs =
     let l = c.before.before.before in
     let s = start l in
-    let v = s.pre.0.valid in
+    let v = s.requires.0.valid in
     record {
       slots = v.slots;
       index = v.index;
-      long = s.pre.0.long;
-      many = l.before.before.count.ensures v.slots (shelves s);
+      long = s.requires.0.long;
+      many = c.count-n.ensures v.slots (shelves s);
       has = record { letters = _; has = c.text_of.ensures v.slots (shelves s) };
-      room = (l.loop.invariant.1 v.slots v.index).long ∙ s.pre.1;
+      room = (c.loop-c.invariant.1 v.slots v.index).long ∙ s.requires.1;
     }
 
-add-c : tie.Need-overflow-add-c invariant-loop decreases-loop
+add-c : tie.Need-overflow_step-c invariant-loop decreases-loop
 add-c c = omega arith
 
-loop-less : tie.Need-loop-smaller invariant-loop decreases-loop
-loop-less c = omega (arith, c.before.before.before.loop-test.true)
+loop-less : tie.Need-loop-c-smaller invariant-loop decreases-loop
+loop-less c = omega (arith, c.loop-c-test.true)
 
-loop-again : tie.Need-loop-preserved invariant-loop decreases-loop
-loop-again c =
-    let t = c.before in
-    let i = t.before.before in
-    let l = i.before in (
-      omega (arith, i.loop-test.true),
-      λ hs I. met_next hs _ (l.loop.invariant.1 hs I) (c.mark-text.ensures hs _ I (t.text_of.ensures hs (index-shelved (start l).requires.0.long I))),
-    )
+loop-again : tie.Need-loop-c-preserved invariant-loop decreases-loop
+loop-again c = (
+  omega (arith, c.loop-c-test.true),
+  λ hs I. met_next hs _ (c.loop-c.invariant.1 hs I) (c.mark_text.ensures hs _ I (c.text_of.ensures hs (index-shelved c.requires.0.long I))),
+)
 
 returns : tie.Need-returns invariant-loop decreases-loop
 returns c hs I =
     let l = c.before in
     let s = start l in
-    met_all hs s.args.x (omega (arith, l.loop.invariant.0, c.loop-test.false, l.before.cuts.ensures hs (index-shelved s.pre.0.long I))) (l.loop.invariant.1 hs I)
+    met_all hs s.args.x (omega (arith, c.loop-c.invariant.0, c.loop-c-test.false, c.cuts-c-end.ensures hs (index-shelved s.requires.0.long I))) (c.loop-c.invariant.1 hs I)
 
-pub mark-met-spec : {M : Type 1} → statement M
-mark-met-spec =
+pub mark_met_spec : {M : Type 1} → statement M
+mark_met_spec =
     tie.close
     (tie.spec
     invariant-loop

@@ -8,70 +8,65 @@ use Rattle.asking.proofs.Searching.{text-placing, entry-room, tree-inside, Walke
 use Rattle.asking.proofs.mark_text.Statement.{statement}
 use Rattle.asking.proofs.mark_text.Tie as tie
 
-abbrev invariant-loop : tie.invariant-loop
+abbrev invariant-loop : tie.invariant-loop-k
 invariant-loop marks₀ memory n text k₀ marks k = (k ≤ n) × Walked memory text k₀ k marks₀ marks
 
-abbrev decreases-loop : tie.decreases-loop
+abbrev decreases-loop : tie.decreases-loop-k
 decreases-loop marks₀ memory n text k₀ marks k = n - k
 
 -- the function's entry, from the head of the loop
-abbrev start : tie.At-loop invariant-loop decreases-loop → tie.Start invariant-loop decreases-loop
+abbrev start : tie.At-loop-k invariant-loop decreases-loop → tie.Start invariant-loop decreases-loop
 start c = c.before.before.before
 
 -- a turn's entry is one of n
-inside : (c : tie.In-loop invariant-loop decreases-loop) → c.before.loop.k < (start c.before).args.n
-inside c = omega (arith, c.loop-test.true)
+inside : (c : tie.In-loop-k invariant-loop decreases-loop) → c.loop-k.k < c.args.n
+inside c = omega (arith, c.loop-k-test.true)
 
-place-requires : tie.Need-place-requires invariant-loop decreases-loop
-place-requires c κs = text-placing c.before.requires
+place-requires : tie.Need-place-k-requires invariant-loop decreases-loop
+place-requires c κs = text-placing c.requires
 
-loop-holds : tie.Need-loop-init invariant-loop decreases-loop
+loop-holds : tie.Need-loop-k-init invariant-loop decreases-loop
 loop-holds c =
-    let s = c.before.before in
-    let r = s.requires in
-    ((c.place.ensures r.slots r.has.letters (index-shelved r.long r.index) r.has.has).few, walked_none s.args.marks.now)
+    let r = c.requires in
+    ((c.place-k.ensures r.slots r.has.letters (index-shelved r.long r.index) r.has.has).few, walked_none c.args.marks.now)
 
-has-text-requires : tie.Need-has-text-requires invariant-loop decreases-loop
-has-text-requires c κs = entry-room (start c.before).pre (inside c)
+has-text-requires : tie.Need-has_text-requires invariant-loop decreases-loop
+has-text-requires c κs = entry-room c.requires (inside c)
 
-tree-of-requires : tie.Need-tree-of-requires invariant-loop decreases-loop
+tree-of-requires : tie.Need-tree_of-requires invariant-loop decreases-loop
 tree-of-requires c κs =
     let i = c.before.before in
-    let r = (start i.before).pre in
+    let r = c.requires in
     omega (arith, r.long, (entry-room r (inside i)).few)
 
-element-write-marks : tie.Need-element-write-marks invariant-loop decreases-loop
+element-write-marks : tie.Need-bounds-marks-tree_of invariant-loop decreases-loop
 element-write-marks c =
-    let i = c.before.before.before in
-    let r = (start i.before).pre in
+    let i = c.before.before.before.before in
+    let r = c.requires in
     omega (arith, c.tree_of.ensures, tree-inside r (inside i), r.room)
 
-add-k : tie.Need-overflow-add-k invariant-loop decreases-loop
+add-k : tie.Need-overflow_add-k invariant-loop decreases-loop
 add-k c = omega arith
 
-loop-less : tie.Need-loop-smaller invariant-loop decreases-loop
+loop-less : tie.Need-loop-k-smaller invariant-loop decreases-loop
 loop-less c = omega arith
 
-loop-again : tie.Need-loop-preserved invariant-loop decreases-loop
+loop-again : tie.Need-loop-k-preserved invariant-loop decreases-loop
 loop-again c =
     let h = c.before.before in
-    let l = h.before.before in
-    let has = c.before.if1.true in
-    (omega (arith, inside h.before), walked_next l.loop.invariant.1 c.tree_of.ensures (tree-inside (start l).requires (inside h.before)) (λ hs xs S t. said _ has (h.has-text.ensures hs xs S t)))
+    let has = c.if-has_text.true in
+    (omega (arith, inside h.before.before), walked_next c.loop-k.invariant.1 c.tree_of.ensures (tree-inside c.requires (inside h.before.before)) (λ hs xs S t. said _ has (c.has_text.ensures hs xs S t)))
 
-returns : tie.Need-returns invariant-loop decreases-loop
+returns : tie.Need-returns-else-has_text invariant-loop decreases-loop
 returns c =
-    let h = c.before in
-    let l = h.before.before in
-    walked_all (start l).requires l.loop.invariant.1 l.loop.invariant.0 (λ _ hs xs S t. denied _ c.if1.false (h.has-text.ensures hs xs S t)) l.before.place.ensures
+    walked_all c.requires c.loop-k.invariant.1 c.loop-k.invariant.0 (λ _ hs xs S t. denied _ c.if-has_text.false (c.has_text.ensures hs xs S t)) c.place-k.ensures
 
-returns-2 : tie.Need-returns-2 invariant-loop decreases-loop
+returns-2 : tie.Need-returns-after-loop-k invariant-loop decreases-loop
 returns-2 c =
-    let l = c.before in
-    walked_all (start l).requires l.loop.invariant.1 l.loop.invariant.0 (λ more. absurd (omega (arith, more, c.loop-test.false))) l.before.place.ensures
+    walked_all c.requires c.loop-k.invariant.1 c.loop-k.invariant.0 (λ more. absurd (omega (arith, more, c.loop-k-test.false))) c.place-k.ensures
 
-pub mark-text-spec : {M : Type 1} → statement M
-mark-text-spec =
+pub mark_text_spec : {M : Type 1} → statement M
+mark_text_spec =
     tie.close
     (tie.spec
     invariant-loop

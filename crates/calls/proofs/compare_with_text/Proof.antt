@@ -5,36 +5,33 @@ use borrow.Author.Rules.{rules}
 use Rattle.calls.proofs.compare_with_text.Statement.{statement}
 use Rattle.calls.proofs.compare_with_text.Tie as tie
 
-read-tree-requires : tie.Need-read-tree-requires
+read-tree-requires : tie.Need-read_tree-second-requires
 read-tree-requires c κs = search rules
 
-enum-known-step : tie.Need-enum-known-step
+enum-known-step : tie.Need-enum_known-step
 enum-known-step c = search rules
 
-refusal-of-second-requires : tie.Need-refusal-of-second-requires
+refusal-of-second-requires : tie.Need-refusal_of_second-requires
 refusal-of-second-requires c κs = search rules
 
-enum-known-step-2 : tie.Need-enum-known-step-2
+enum-known-step-2 : tie.Need-enum_known-step-in-Next-1
 enum-known-step-2 c = search rules
 
 compare-requires : tie.Need-compare-requires
 compare-requires c κs =
-    let d = c.before.before.before in
-    let s = d.before.before.args.s.now in
-    (d.before.before.requires, read_kept s d.read-tree.ensures c.before.step2.given.1, read_some s d.read-tree.ensures c.before.step2.given.1)
+    let s = c.args.s.now in
+    (c.requires, read_kept s c.read_tree-second.ensures c.in-Next.is, read_some s c.read_tree-second.ensures c.in-Next.is)
 
-returns : tie.Need-returns
+returns : tie.Need-returns-in-Refused
 returns c t k =
-    let d = c.before.before.before.before in
-    second-refused d.before.before.args.s.now d.read-tree.ensures t c.before.before.step.given.1 c.refusal-of-second.ensures
+    second-refused c.args.s.now c.read_tree-second.ensures t c.in-Refused.is c.refusal_of_second.ensures
 
-returns-2 : tie.Need-returns-2
+returns-2 : tie.Need-returns-in-Next
 returns-2 c t k =
-    let d = c.before.before.before.before in
-    second-read d.before.before.args.s.now d.read-tree.ensures c.before.before.step2.given.1 t (λ u l. c.compare.ensures t u k l)
+    second-read c.args.s.now c.read_tree-second.ensures c.in-Next.is t (λ u l. c.compare.ensures t u k l)
 
-pub compare-with-text-spec : {M : Type 1} → statement M
-compare-with-text-spec =
+pub compare_with_text_spec : {M : Type 1} → statement M
+compare_with_text_spec =
     tie.close
     (tie.spec
     read-tree-requires

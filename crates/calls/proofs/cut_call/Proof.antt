@@ -8,47 +8,47 @@ use Rattle.calls.proofs.cut_call.Statement.{statement}
 use Rattle.calls.proofs.cut_call.Tie as tie
 
 -- the entry, from where the text was read, and what the call is given
-abbrev start : tie.After-read-lent → tie.Start
+abbrev start : tie.After-read_lent-read → tie.Start
 start d = d.before.before.before.before
 
-given : (d : tie.After-read-lent) → TreeLent d.read-lent.result (cut_tree (start d).args.s.now (start d).args.out.now)
-given d = measured _ d.before.enough.ensures d.read-lent.ensures
+given : (d : tie.After-read_lent-read) → TreeLent d.read_lent-read.result (cut_tree d.args.s.now d.args.out.now)
+given d = measured _ d.enough-fits.ensures d.read_lent-read.ensures
 
-enough-requires : tie.Need-enough-requires
+enough-requires : tie.Need-enough-fits-requires
 enough-requires c κs = search rules
 
-read-lent-requires : tie.Need-read-lent-requires
+read-lent-requires : tie.Need-read_lent-read-requires
 read-lent-requires c κs = search rules
 
-enum-known-step : tie.Need-enum-known-step
+enum-known-step : tie.Need-enum_known-step
 enum-known-step c = search rules
 
-enum-known-step-2 : tie.Need-enum-known-step-2
+enum-known-step-2 : tie.Need-enum_known-step-in-Next-1
 enum-known-step-2 c = search rules
 
-write-cut-requires : tie.Need-write-cut-requires
+write-cut-requires : tie.Need-write_cut-requires
 write-cut-requires c κs =
-    let d = c.before.before.before.before in
-    let a = (start d).args in
-    cut-room a.s.now a.cut a.out.now (given d) c.before.before.step2.given.1
-
-returns : tie.Need-returns
-returns c =
     let d = c.before.before.before in
-    let a = (start d).args in
-    cut-refused a.s.now a.cut a.out.now (given d) c.before.step.given.1
+    let a = c.args in
+    cut-room a.s.now a.cut a.out.now (given d) c.in-Next.is
 
-same_length : tie.Need-same-length
+returns : tie.Need-returns-in-Refused
+returns c =
+    let d = c.before in
+    let a = c.args in
+    cut-refused a.s.now a.cut a.out.now (given d) c.in-Refused.is
+
+same_length : tie.Need-shape_of-out
 same_length c = search rules
 
-returns-2 : tie.Need-returns-2
+returns-2 : tie.Need-returns-in-Next
 returns-2 c =
-    let d = c.before.before.before.before.before.before.before in
-    let a = (start d).args in
-    cut-done a.s.now a.cut a.out.now (given d) c.before.before.before.before.before.step2.given.1 c.before.before.write-cut.result c.before.before.write-cut.ensures
+    let d = c.before.before.before.before.before.before in
+    let a = c.args in
+    cut-done a.s.now a.cut a.out.now (given d) c.in-Next.is c.write_cut.result c.write_cut.ensures
 
-pub cut-call-spec : {M : Type 1} → statement M
-cut-call-spec =
+pub cut_call_spec : {M : Type 1} → statement M
+cut_call_spec =
     tie.close
     (tie.spec
     enough-requires

@@ -9,47 +9,47 @@ use Rattle.calls.proofs.form_call.Statement.{statement}
 use Rattle.calls.proofs.form_call.Tie as tie
 
 -- the entry, from where the text was read, and what the call is given
-abbrev start : tie.After-read-lent → tie.Start
+abbrev start : tie.After-read_lent-read → tie.Start
 start d = d.before.before.before.before
 
-given : (d : tie.After-read-lent) → TreeLent d.read-lent.result (form_read (start d).args.s.now (start d).args.out.now)
-given d = measured _ d.before.enough.ensures d.read-lent.ensures
+given : (d : tie.After-read_lent-read) → TreeLent d.read_lent-read.result (form_read d.args.s.now d.args.out.now)
+given d = measured _ d.enough-fits.ensures d.read_lent-read.ensures
 
-enough-requires : tie.Need-enough-requires
+enough-requires : tie.Need-enough-fits-requires
 enough-requires c κs = search rules
 
-read-lent-requires : tie.Need-read-lent-requires
+read-lent-requires : tie.Need-read_lent-read-requires
 read-lent-requires c κs = search rules
 
-enum-known-step : tie.Need-enum-known-step
+enum-known-step : tie.Need-enum_known-step
 enum-known-step c = search rules
 
-enum_told : tie.Need-enum-told
+enum_told : tie.Need-enum_told-1
 enum_told c = search rules
 
-write-form-requires : tie.Need-write-form-requires
+write-form-requires : tie.Need-write_form-requires
 write-form-requires c κs =
     let d = c.before.before.before in
-    let a = (start d).args in
-    form-fits a.s.now a.out.now (given d) c.before.enum_told.given.1
+    let a = c.args in
+    form-fits a.s.now a.out.now (given d) c.in-Next.is
 
-returns : tie.Need-returns
+returns : tie.Need-returns-in-Refused
 returns c =
-    let d = c.before.before.before in
-    let a = (start d).args in
-    form-refused a.s.now a.out.now (given d) c.before.step.given.1
+    let d = c.before in
+    let a = c.args in
+    form-refused a.s.now a.out.now (given d) c.in-Refused.is
 
-same_length : tie.Need-same-length
+same_length : tie.Need-shape_of-out
 same_length c = search rules
 
-returns-2 : tie.Need-returns-2
+returns-2 : tie.Need-returns-in-Next
 returns-2 c =
     let d = c.before.before.before.before.before.before in
-    let a = (start d).args in
-    form-written a.s.now a.out.now (given d) c.before.before.before.before.enum_told.given.1 c.before.before.write-form.ensures
+    let a = c.args in
+    form-written a.s.now a.out.now (given d) c.in-Next.is c.write_form.ensures
 
-pub form-call-spec : {M : Type 1} → statement M
-form-call-spec =
+pub form_call_spec : {M : Type 1} → statement M
+form_call_spec =
     tie.close
     (tie.spec
     enough-requires

@@ -10,11 +10,11 @@ use Rattle.calls.proofs.pair_answer.Tie as tie
 abbrev answer : ℕ → Bool → Answer Comparison
 answer n b = accepted (record { yes = b; forests = n })
 
-returns : tie.Need-returns
-returns c = ap (answer c.before.args.told.forests) (sym c.if1.true)
+returns : tie.Need-returns-then-told
+returns c = ap (answer c.args.told.forests) (sym c.if-told.true)
 
-returns-2 : tie.Need-returns-2
-returns-2 c = ap (answer c.before.args.told.forests) (sym c.if1.false)
+returns-2 : tie.Need-returns-else-told
+returns-2 c = ap (answer c.args.told.forests) (sym c.if-told.false)
 
-pub pair-answer-spec : {M : Type 1} → statement M
-pair-answer-spec = tie.close (tie.spec returns returns-2)
+pub pair_answer_spec : {M : Type 1} → statement M
+pair_answer_spec = tie.close (tie.spec returns returns-2)

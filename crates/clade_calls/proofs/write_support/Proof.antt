@@ -5,35 +5,32 @@ use Rattle.clade_calls.proofs.Supporting.{list-room, text-room, support-written}
 use Rattle.clade_calls.proofs.write_support.Statement.{statement}
 use Rattle.clade_calls.proofs.write_support.Tie as tie
 
-list-support-requires : tie.Need-list-support-requires
-list-support-requires c κs = list-room c.before.before.before.before.before.requires
+list-support-requires : tie.Need-list_support-n-requires
+list-support-requires c κs = list-room c.requires
 
 -- the entry, from where the clades are listed
-abbrev start : tie.After-list-support → tie.Start
+abbrev start : tie.After-list_support-n → tie.Start
 start l = l.before.before.before.before.before.before
 
-write-majority-requires : tie.Need-write-majority-requires
+write-majority-requires : tie.Need-write_majority-bytes-requires
 write-majority-requires c κs =
-    let l = c.before.before.before.before.before.before.before in
-    text-room (start l).requires l.list-support.ensures
+    text-room c.requires c.list_support-n.ensures
 
-same_length : tie.Need-same-length
+same_length : tie.Need-shape_of-clades
 same_length c = search rules
 
-same-length-2 : tie.Need-same-length-2
+same-length-2 : tie.Need-shape_of-numbers
 same-length-2 c = search rules
 
-same-length-3 : tie.Need-same-length-3
+same-length-3 : tie.Need-shape_of-text
 same-length-3 c = search rules
 
 returns : tie.Need-returns
 returns c =
-    let w = c.before.before in
-    let l = w.before.before.before.before.before.before.before.before in
-    support-written (start l).requires l.list-support.ensures w.write-majority.ensures
+    support-written c.requires c.list_support-n.ensures c.write_majority-bytes.ensures
 
-pub write-support-spec : {M : Type 1} → statement M
-write-support-spec =
+pub write_support_spec : {M : Type 1} → statement M
+write_support_spec =
     tie.close
     (tie.spec
     list-support-requires

@@ -8,5 +8,5 @@ use Rattle.forks.proofs.labels.Tie as tie
 returns : tie.Need-returns
 returns c = ones-size c.args.c (omega arith)
 
-pub labels-spec : {M : Type 1} → statement M
-labels-spec = tie.close (tie.spec returns)
+pub labels_spec : {M : Type 1} → statement M
+labels_spec = tie.close (tie.spec returns)

@@ -19,34 +19,34 @@ use Rattle.forks.proofs.Noting.{Noting, noting-none, noting-room, noting-all, no
 use Rattle.forks.proofs.note_clades.Statement.{statement}
 use Rattle.forks.proofs.note_clades.Tie as tie
 
-abbrev invariant-loop : tie.invariant-loop
+abbrev invariant-loop : tie.invariant-loop-k
 invariant-loop xs₀ at n m nodes next₀ k₀ xs next k = (t : Topology) → Holds n 0 t → Noting t xs₀ xs at next k
 
-abbrev decreases-loop : tie.decreases-loop
+abbrev decreases-loop : tie.decreases-loop-k
 decreases-loop xs₀ at n m nodes next₀ k₀ xs next k = nodes - k
 
-slice-aggregate-note : tie.Need-slice-aggregate-note invariant-loop decreases-loop
+slice-aggregate-note : tie.Need-slice_bounds-note-end invariant-loop decreases-loop
 slice-aggregate-note c = search rules
 
 note-requires : tie.Need-note-requires invariant-loop decreases-loop
 note-requires c κs =
-    let p = c.before.before.before.before.requires.kept in
+    let p = c.requires.kept in
     record { tree = canon p.topology; holds = keeps-holds p.keeps; good = canon-good p.keeps.good; room = omega (arith, length-replicate {A = ℕ} max_nodes 0) }
 
-slice-aggregate-width : tie.Need-slice-aggregate-width invariant-loop decreases-loop
+slice-aggregate-width : tie.Need-slice_bounds-width-end invariant-loop decreases-loop
 slice-aggregate-width c = search rules
 
-width-requires : tie.Need-width-requires invariant-loop decreases-loop
-width-requires c κs = kept-held c.before.before.before.before.before.before.requires.kept
+width-requires : tie.Need-width-nodes-requires invariant-loop decreases-loop
+width-requires c κs = kept-held c.requires.kept
 
-loop-holds : tie.Need-loop-init invariant-loop decreases-loop
+loop-holds : tie.Need-loop-k-init invariant-loop decreases-loop
 loop-holds c t h = let s = c.before.before.before.before.before.before.before in noting-none t s.args.xs.now s.args.at
 
 -- a turn of the loop
 abbrev Turn : Type 0
-Turn = tie.In-loop invariant-loop decreases-loop
+Turn = tie.In-loop-k invariant-loop decreases-loop
 
-abbrev wide : Turn → tie.After-width invariant-loop decreases-loop
+abbrev wide : Turn → tie.After-width-nodes invariant-loop decreases-loop
 wide u = u.before.before
 
 abbrev start : Turn → tie.Start invariant-loop decreases-loop
@@ -54,80 +54,82 @@ start u = (wide u).before.before.before.before.before.before.before
 
 -- the tree, and the subtree at its node k
 abbrev tree : Turn → Topology
-tree u = canon (start u).pre.kept.topology
+tree u = canon u.requires.kept.topology
 
-holds : (u : Turn) → Holds (start u).args.tree.node 0 (tree u)
-holds u = keeps-holds (start u).pre.kept.keeps
+holds : (u : Turn) → Holds u.args.tree.node 0 (tree u)
+holds u = keeps-holds u.requires.kept.keeps
 
-inside : (u : Turn) → u.before.loop.k < nodes (tree u)
-inside u = omega (arith, u.loop-test.taken, (wide u).width.ensures (tree u) (holds u))
+inside : (u : Turn) → u.loop-k.k < nodes (tree u)
+inside u = omega (arith, u.loop-k-test.true, u.width-nodes.ensures (tree u) (holds u))
 
-here : (u : Turn) → Sub (start u).args.tree.node u.before.loop.k (nodes (tree u))
-here u = node_in (tree u) (holds u) (canon-good (start u).pre.kept.keeps.good) u.before.loop.k (inside u)
+here : (u : Turn) → Sub u.args.tree.node u.loop-k.k (nodes (tree u))
+here u = node_in (tree u) (holds u) (canon-good u.requires.kept.keeps.good) u.loop-k.k (inside u)
 
-few : (u : Turn) → u.before.loop.k < 127
-few u = omega (arith, inside u, few-nodes (canon-good (start u).pre.kept.keeps.good))
+few : (u : Turn) → u.loop-k.k < 127
+few u = omega (arith, inside u, few-nodes (canon-good u.requires.kept.keeps.good))
 
 -- where that is a fork there is room for its clade, which is noted beside it
-noted : (u : Turn) → get_or (wide u).before.before.note.last.0 u.before.loop.k 0 ≡ clade (here u).tree
-noted u = (wide u).before.before.note.ensures (tree u) (holds u) u.before.loop.k (omega arith) (inside u) (here u).tree (here u).holds
+noted : (u : Turn) → get_or u.note.new.m u.loop-k.k 0 ≡ clade (here u).tree
+noted u = u.note.ensures (tree u) (holds u) u.loop-k.k (omega arith) (inside u) (here u).tree (here u).holds
 
-long : (u : Turn) → length u.before.loop.xs ≡ length (start u).args.xs.now
-long u = wrote-length (u.before.loop.inv (tree u) (holds u)).wrote
+long : (u : Turn) → length u.loop-k.xs ≡ length u.args.xs.now
+long u = wrote-length (u.loop-k.invariant (tree u) (holds u)).wrote
 
-room : (c : tie.Then1 invariant-loop decreases-loop) → c.before.before.loop.next < length (start c.before).args.xs.now
+room : (c : tie.Then-n-k-gt-FORK invariant-loop decreases-loop) → c.loop-k.next < length c.args.xs.now
 room c =
     let u = c.before in
-    let more = noting-fork (u.before.loop.invariant (tree u) (holds u)) (holds u) (inside u) (here u).holds c.if1.true (clade (here u).tree) refl in
-    omega (arith, noting-room more (canon-good (start u).requires.kept.keeps.good), (start u).requires.room)
+    let more = noting-fork (u.loop-k.invariant (tree u) (holds u)) (holds u) (inside u) (here u).holds c.if-n-k-gt-FORK.true (clade (here u).tree) refl in
+    omega (arith, noting-room more (canon-good u.requires.kept.keeps.good), u.requires.room)
 
-array-read-if1 : tie.Need-array-read-if1 invariant-loop decreases-loop
-array-read-if1 c = few c
+array-read-if1 : tie.Need-bounds-n-k invariant-loop decreases-loop
+array-read-if1 c =
+    let p = c.requires.kept in
+    omega (arith, c.loop-k-test.true, c.width-nodes.ensures (canon p.topology) (keeps-holds p.keeps), few-nodes (canon-good p.keeps.good))
 
-mul-xs : tie.Need-overflow-mul-xs invariant-loop decreases-loop
+mul-xs : tie.Need-offset_bounds-m-k invariant-loop decreases-loop
 mul-xs c = omega (arith, few c.before)
 
-array-read-xs : tie.Need-array-read-xs invariant-loop decreases-loop
+array-read-xs : tie.Need-bounds-m-k invariant-loop decreases-loop
 array-read-xs c = few c.before
 
-mul-xs-2 : tie.Need-overflow-mul-xs-2 invariant-loop decreases-loop
+mul-xs-2 : tie.Need-offset_bounds-xs-next invariant-loop decreases-loop
 mul-xs-2 c = let h = room c in search (rules, h)
 
-slice-write-xs : tie.Need-slice-write-xs invariant-loop decreases-loop
+slice-write-xs : tie.Need-bounds-xs-next invariant-loop decreases-loop
 slice-write-xs c = omega (arith, room c, long c.before)
 
-add-next : tie.Need-overflow-add-next invariant-loop decreases-loop
+add-next : tie.Need-overflow_add-next invariant-loop decreases-loop
 add-next c = let h = room c in search (rules, h)
 
-add-k : tie.Need-overflow-add-k invariant-loop decreases-loop
+add-k : tie.Need-overflow_step-k invariant-loop decreases-loop
 add-k c = omega (arith, few c.before)
 
-loop-less : tie.Need-loop-smaller invariant-loop decreases-loop
-loop-less c = omega (arith, c.before.loop-test.true)
+loop-less : tie.Need-loop-k-smaller invariant-loop decreases-loop
+loop-less c = omega (arith, c.loop-k-test.true)
 
-loop-again : tie.Need-loop-preserved invariant-loop decreases-loop
+loop-again : tie.Need-loop-k-preserved invariant-loop decreases-loop
 loop-again c t h =
     let u = c.before in
-    let P = u.before.loop.invariant t h in
+    let P = u.loop-k.invariant t h in
     let same : tree u ≡ t = unique (holds u) h in
-    let lt : u.before.loop.k < nodes t = rw (← same) (inside u) in
+    let lt : u.loop-k.k < nodes t = rw (← same) (inside u) in
     ⊎_elim
-    (λ w. rw (w.1, w.2) (noting-fork P h lt (here u).holds w.0.taken _ (noted u)))
-    (λ w. rw (w.1, w.2) (noting-leaf P h lt (here u).holds w.0.left))
-    c.if1.branch
+    (λ w. rw (w.xs-is, w.next-is) (noting-fork P h lt (here u).holds w.if-n-k-gt-FORK.true _ (noted u)))
+    (λ w. rw (w.xs-is, w.next-is) (noting-leaf P h lt (here u).holds w.if-n-k-gt-FORK.false))
+    c.if-n-k-gt-FORK.branch-raw
 
-same_length : tie.Need-same-length invariant-loop decreases-loop
+same_length : tie.Need-shape_of-xs invariant-loop decreases-loop
 same_length c =
-    let p = c.before.before.before.before.before.before.before.before.before.requires.kept in
-    wrote-length (c.before.loop.invariant (canon p.topology) (keeps-holds p.keeps)).wrote
+    let p = c.requires.kept in
+    wrote-length (c.loop-k.invariant (canon p.topology) (keeps-holds p.keeps)).wrote
 
 returns : tie.Need-returns invariant-loop decreases-loop
 returns c t k =
     let h = keeps-holds k in
-    noting-all (c.before.loop.invariant (canon t) h) (omega (arith, c.before.before.width.ensures (canon t) h, c.loop-test.false))
+    noting-all (c.loop-k.invariant (canon t) h) (omega (arith, c.width-nodes.ensures (canon t) h, c.loop-k-test.false))
 
-pub note-clades-spec : {M : Type 1} → statement M
-note-clades-spec =
+pub note_clades_spec : {M : Type 1} → statement M
+note_clades_spec =
     tie.close
     (tie.spec
     invariant-loop

@@ -13,58 +13,56 @@ use Rattle.graph.proofs.Turns.{none-listed, Part, part-more, part-ends, pairs-le
 use Rattle.graph.proofs.list_links.Statement.{statement}
 use Rattle.graph.proofs.list_links.Tie as tie
 
-abbrev invariant-loop : tie.invariant-loop
+abbrev invariant-loop : tie.invariant-loop-i
 invariant-loop pairs₀ counts₀ links n m₀ i₀ pairs counts m i =
     Part (pairs_of n (is_linked links)) (pairs_from i n (is_linked links)) (slices pairs₀ counts₀) (slices pairs counts) m₀ m
 
-abbrev decreases-loop : tie.decreases-loop
+abbrev decreases-loop : tie.decreases-loop-i
 decreases-loop pairs₀ counts₀ links n m₀ i₀ pairs counts m i = n - i
 
 -- the function's entry, from the head of the loop
-abbrev start : tie.At-loop invariant-loop decreases-loop → tie.Start invariant-loop decreases-loop
+abbrev start : tie.At-loop-i invariant-loop decreases-loop → tie.Start invariant-loop decreases-loop
 start c = c.before.before.before.before.before.before.before
 
 clear-requires : tie.Need-clear-requires invariant-loop decreases-loop
 clear-requires c κs = omega arith
 
-loop-holds : tie.Need-loop-init invariant-loop decreases-loop
+loop-holds : tie.Need-loop-i-init invariant-loop decreases-loop
 loop-holds c = record { done = []; whole = refl; listed = none-listed }
 
-list-row-requires : tie.Need-list-row-requires invariant-loop decreases-loop
+list-row-requires : tie.Need-list_row-m-requires invariant-loop decreases-loop
 list-row-requires c κs =
     let l = c.before.before.before in
     let s = start l in
-    let inside = c.before.before.loop-test.true in
-    let room = all_room s.args.links.now s.args.n s.pre.0 s.pre.1 l.before.before.before.clear.ensures in
-    (inside, next-room l.loop.invariant _ (pairs-step _ _ _ inside) room)
+    let inside = c.loop-i-test.true in
+    let room = all_room s.args.links.now s.args.n s.requires.0 s.requires.1 c.clear.ensures in
+    (inside, next-room c.loop-i.invariant _ (pairs-step _ _ _ inside) room)
 
-add-i : tie.Need-overflow-add-i invariant-loop decreases-loop
+add-i : tie.Need-overflow_step-i invariant-loop decreases-loop
 add-i c = omega arith
 
-loop-less : tie.Need-loop-smaller invariant-loop decreases-loop
+loop-less : tie.Need-loop-i-smaller invariant-loop decreases-loop
 loop-less c = omega arith
 
-loop-again : tie.Need-loop-preserved invariant-loop decreases-loop
+loop-again : tie.Need-loop-i-preserved invariant-loop decreases-loop
 loop-again c =
-    let w = c.before.before.before.before in
-    let l = w.before.before.before.before in
-    part-more l.loop.invariant (pairs-step _ _ _ w.before.before.before.loop-test.true) w.list-row.ensures
+    part-more c.loop-i.invariant (pairs-step _ _ _ c.loop-i-test.true) c.list_row-m.ensures
 
-same_length : tie.Need-same-length invariant-loop decreases-loop
-same_length c = pairs-length c.before.loop.invariant
+same_length : tie.Need-shape_of-pairs invariant-loop decreases-loop
+same_length c = pairs-length c.loop-i.invariant
 
-same-length-2 : tie.Need-same-length-2 invariant-loop decreases-loop
-same-length-2 c = omega (arith, numbers-length c.before.loop.invariant, wrote-length c.before.before.before.before.clear.ensures)
+same-length-2 : tie.Need-shape_of-counts invariant-loop decreases-loop
+same-length-2 c = omega (arith, numbers-length c.loop-i.invariant, wrote-length c.clear.ensures)
 
 returns : tie.Need-returns invariant-loop decreases-loop
 returns c =
     let l = c.before in
     let s = start l in
-    let all = part-ends l.loop.invariant (pairs_end _ _ _ c.loop-test.false) in
-    graph-listed s.args.links.now s.args.n s.pre.0 s.pre.1 l.before.before.before.clear.ensures all
+    let all = part-ends c.loop-i.invariant (pairs_end _ _ _ c.loop-i-test.false) in
+    graph-listed s.args.links.now s.args.n s.requires.0 s.requires.1 c.clear.ensures all
 
-pub list-links-spec : {M : Type 1} → statement M
-list-links-spec =
+pub list_links_spec : {M : Type 1} → statement M
+list_links_spec =
     tie.close
     (tie.spec
     invariant-loop

@@ -16,86 +16,81 @@ use Rattle.index_calls.proofs.Calling.{add-full, add-unlike, add_done, add-room,
 use Rattle.index_calls.proofs.add_read.Statement.{statement}
 use Rattle.index_calls.proofs.add_read.Tie as tie
 
-first-free-requires : tie.Need-first-free-requires
-first-free-requires c κs = let p = c.before.before.requires in valid-shelves p.1 p.0
+first-free-requires : tie.Need-first_free-number-requires
+first-free-requires c κs = let p = c.requires in valid-shelves p.1 p.0
 
-refusal-at-zero-requires : tie.Need-refusal-at-zero-requires
+refusal-at-zero-requires : tie.Need-refusal_at_zero-requires
 refusal-at-zero-requires c κs = search rules
 
-same_length : tie.Need-same-length
+same_length : tie.Need-shape_of-memory-then-number-eq-MAX_TREES
 same_length c = search rules
 
-returns : tie.Need-returns
+returns : tie.Need-returns-then-number-eq-MAX_TREES
 returns c hs x I k =
-    let f = c.before.before in
-    let d = f.before.before.before in
-    add-full hs x d.args.behind d.args.memory.now f.first-free.result (f.first-free.ensures hs (index-shelved d.requires.1 I)) c.before.if1.true c.refusal-at-zero.ensures
+    add-full hs x c.args.behind c.args.memory.now c.first_free-number.result (c.first_free-number.ensures hs (index-shelved c.requires.1 I)) c.if-number-eq-MAX_TREES.true c.refusal_at_zero.ensures
 
-unlike-held-requires : tie.Need-unlike-held-requires
-unlike-held-requires c κs = let p = c.before.before.before.before.before.requires in (valid-shelves p.1 p.0, p.2)
+unlike-held-requires : tie.Need-unlike_held-unlike-requires
+unlike-held-requires c κs = let p = c.requires in (valid-shelves p.1 p.0, p.2)
 
-sub-t12 : tie.Need-overflow-sub-t12
+sub-t12 : tie.Need-overflow_sub-result
 sub-t12 c = search rules
 
-same-length-2 : tie.Need-same-length-2
+same-length-2 : tie.Need-shape_of-memory-then-unlike-ne0
 same-length-2 c = search rules
 
 -- a number is free, and the line is told
-module _ (u : tie.After-unlike-held) where
+module _ (u : tie.After-unlike_held-unlike) where
   abbrev start : tie.Start
-  start = u.before.before.before.before.before.before
+  start = u.before.before.before.before
 
   module _ (hs : List Slot) (x : Kinded) (I : IsIndex hs start.args.memory.now) (k : KeepsKind start.args.tree x) where
-    number_is : u.before.before.before.first-free.result ≡ smallest_free hs
-    number_is = u.before.before.before.first-free.ensures hs (index-shelved start.pre.1 I)
+    number_is : u.first_free-number.result ≡ smallest_free hs
+    number_is = u.first_free-number.ensures hs (index-shelved start.requires.1 I)
 
-returns-2 : tie.Need-returns-2
+returns-2 : tie.Need-returns-then-unlike-ne0
 returns-2 c hs x I k =
     let u = c.before in
-    let f = u.before.before.before in
     let d = start u in
-    let S = index-shelved d.pre.1 I in
-    add-unlike hs x d.args.behind d.args.memory.now f.first-free.result (number_is u hs x I k) u.before.before.if1.false u.unlike-held.result (u.unlike-held.ensures hs x S k) c.if2.true
+    let S = index-shelved d.requires.1 I in
+    add-unlike hs x d.args.behind d.args.memory.now c.first_free-number.result (number_is u hs x I k) c.if-number-eq-MAX_TREES.false c.unlike_held-unlike.result (c.unlike_held-unlike.ensures hs x S k) c.if-unlike-ne0.true
 
 add-requires : tie.Need-add-requires
 add-requires c κs =
     let e = c.before in
     let u = e.before in
-    let f = u.before.before.before in
     let d = start u in
-    let v = d.pre.0 in
-    let kept = d.pre.2 in
+    let v = d.requires.0 in
+    let kept = d.requires.2 in
     let hs = v.slots in
     let I = v.index in
     let x = kept.kinded in
     let k = kept.keeps in
-    let S = index-shelved d.pre.1 I in
+    let S = index-shelved d.requires.1 I in
     record {
       slots = hs;
       topology = x.tree;
-      adds = add-room hs x d.args.behind d.args.memory.now f.first-free.result (number_is u hs x I k) u.before.before.if1.false u.unlike-held.result (u.unlike-held.ensures hs x S k)
-          e.if2.false I d.pre.1 (omega (arith, smallest-le hs, I.trees.many)) k;
+      adds = add-room hs x d.args.behind d.args.memory.now c.first_free-number.result (number_is u hs x I k) c.if-number-eq-MAX_TREES.false c.unlike_held-unlike.result (c.unlike_held-unlike.ensures hs x S k)
+          c.if-unlike-ne0.false I d.requires.1 (omega (arith, smallest-le hs, I.trees.many)) k;
     }
 
-same-length-3 : tie.Need-same-length-3
+same-length-3 : tie.Need-shape_of-memory
 same-length-3 c = search rules
 
-returns-3 : tie.Need-returns-3
+returns-3 : tie.Need-returns
 returns-3 c hs x I k =
     let a = c.before.before in
     let e = a.before.before in
     let u = e.before in
-    let f = u.before.before.before in
     let d = start u in
-    let S = index-shelved d.pre.1 I in
+    let S = index-shelved d.requires.1 I in
     let few : smallest_free hs ≤ max_trees = omega (arith, smallest-le hs, I.trees.many) in
     let n = number_is u hs x I k in
-    let l = u.unlike-held.ensures hs x S k in
-    let A = add-room hs x d.args.behind d.args.memory.now f.first-free.result n u.before.before.if1.false u.unlike-held.result l e.if2.false I d.pre.1 few k in
-    add_done hs x d.args.behind d.args.memory.now f.first-free.result n u.before.before.if1.false u.unlike-held.result l e.if2.false (a.add.ensures hs x.tree A)
+    let l = c.unlike_held-unlike.ensures hs x S k in
+    let A = add-room hs x d.args.behind d.args.memory.now c.first_free-number.result n c.if-number-eq-MAX_TREES.false c.unlike_held-unlike.result l c.if-unlike-ne0.false I d.requires.1 few k in
+    add_done hs x d.args.behind d.args.memory.now c.first_free-number.result n c.if-number-eq-MAX_TREES.false c.unlike_held-unlike.result l c.if-unlike-ne0.false (c.add.ensures hs x.tree A)
 
-pub add-read-spec : {M : Type 1} → statement M
-add-read-spec =
+pub add_read_spec : {M : Type 1} → statement M
+add_read_spec =
     tie.close
     (tie.spec
     first-free-requires

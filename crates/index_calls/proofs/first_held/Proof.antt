@@ -15,50 +15,48 @@ use Rattle.index_calls.proofs.Firsts.{held-here, held-behind, held-past}
 use Rattle.index_calls.proofs.first_held.Statement.{statement}
 use Rattle.index_calls.proofs.first_held.Tie as tie
 
-abbrev invariant-loop : tie.invariant-loop
+abbrev invariant-loop : tie.invariant-loop-x
 invariant-loop memory x₀ x = (x ≤ max_trees) × ((hs : List Slot) → Shelved hs memory → x + first_held (drop x hs) ≡ first_held hs)
 
-abbrev decreases-loop : tie.decreases-loop
+abbrev decreases-loop : tie.decreases-loop-x
 decreases-loop memory x₀ x = max_trees - x
 
-loop-holds : tie.Need-loop-init invariant-loop decreases-loop
+loop-holds : tie.Need-loop-x-init invariant-loop decreases-loop
 loop-holds c = (omega arith, λ hs S. omega arith)
 
-is-free-requires : tie.Need-is-free-requires invariant-loop decreases-loop
-is-free-requires c κs = (c.before.before.before.requires, c.loop-test.true)
+is-free-requires : tie.Need-is_free-requires invariant-loop decreases-loop
+is-free-requires c κs = (c.requires, c.loop-x-test.true)
 
-add-x : tie.Need-overflow-add-x invariant-loop decreases-loop
-add-x c = omega (arith, c.before.before.loop-test.true)
+add-x : tie.Need-overflow_add-x invariant-loop decreases-loop
+add-x c = omega (arith, c.loop-x-test.true)
 
-loop-less : tie.Need-loop-smaller invariant-loop decreases-loop
-loop-less c = omega (arith, c.before.before.loop-test.true)
+loop-less : tie.Need-loop-x-smaller invariant-loop decreases-loop
+loop-less c = omega (arith, c.loop-x-test.true)
 
-loop-again : tie.Need-loop-preserved invariant-loop decreases-loop
+loop-again : tie.Need-loop-x-preserved invariant-loop decreases-loop
 loop-again c =
-    let turn = c.before.before in
-    let l = turn.before.loop in
-    let r = c.before.is_free in (
-      omega (arith, turn.loop-test.true),
+    let l = c.loop-x in
+    let r = c.is_free in (
+      omega (arith, c.loop-x-test.true),
       λ hs S.
-          let e = said (slot_at hs l.x ≡ free) c.if1.true (r.ensures hs S) in
-          omega (arith, l.invariant.1 hs S, held-behind hs l.x (omega (arith, S.trees.many, turn.loop-test.true)) e),
+          let e = said (slot_at hs l.x ≡ free) c.if-is_free.true (r.ensures hs S) in
+          omega (arith, l.invariant.1 hs S, held-behind hs l.x (omega (arith, S.trees.many, c.loop-x-test.true)) e),
     )
 
-returns : tie.Need-returns invariant-loop decreases-loop
+returns : tie.Need-returns-else-is_free invariant-loop decreases-loop
 returns c hs S =
-    let turn = c.before.before in
-    let l = turn.before.loop in
-    let r = c.before.is_free in
-    let (t, e) = some-tree (slot_at hs l.x) (denied (slot_at hs l.x ≡ free) c.if1.false (r.ensures hs S)) in
-    omega (arith, l.invariant.1 hs S, held-here hs l.x (omega (arith, S.trees.many, turn.loop-test.true)) e)
+    let l = c.loop-x in
+    let r = c.is_free in
+    let (t, e) = some-tree (slot_at hs l.x) (denied (slot_at hs l.x ≡ free) c.if-is_free.false (r.ensures hs S)) in
+    omega (arith, l.invariant.1 hs S, held-here hs l.x (omega (arith, S.trees.many, c.loop-x-test.true)) e)
 
-returns-2 : tie.Need-returns-2 invariant-loop decreases-loop
+returns-2 : tie.Need-returns-after-loop-x invariant-loop decreases-loop
 returns-2 c hs S =
-    let l = c.before.loop in
-    omega (arith, l.invariant.1 hs S, held-past hs l.x (omega (arith, S.trees.many, c.loop-test.false)))
+    let l = c.loop-x in
+    omega (arith, l.invariant.1 hs S, held-past hs l.x (omega (arith, S.trees.many, c.loop-x-test.false)))
 
-pub first-held-spec : {M : Type 1} → statement M
-first-held-spec =
+pub first_held_spec : {M : Type 1} → statement M
+first_held_spec =
     tie.close
     (tie.spec
     invariant-loop

@@ -15,17 +15,17 @@ contrary : (r : Bool) (P : Type 0) → Says r P → Says (not r) (¬ P)
 contrary true P p = λ n. n p
 contrary false P n = n
 
-returns : tie.Need-returns
+returns : tie.Need-returns-then-number-ge-MAX_TREES
 returns c hs S n =
-    let x = c.before.before.args.number in
+    let x = c.args.number in
     let (t, e) = some-tree (slot_at hs x) n in
-    omega (arith, held-inside hs x e, S.trees.many, c.if1.true)
+    omega (arith, held-inside hs x e, S.trees.many, c.if-number-ge-MAX_TREES.true)
 
-is-free-requires : tie.Need-is-free-requires
-is-free-requires c κs = (c.before.before.requires, omega (arith, c.if1.false))
+is-free-requires : tie.Need-is_free-requires
+is-free-requires c κs = (c.requires, omega (arith, c.if-number-ge-MAX_TREES.false))
 
-returns-2 : tie.Need-returns-2
-returns-2 c hs S = contrary c.is_free.result (slot_at hs c.before.before.before.args.number ≡ free) (c.is_free.ensures hs S)
+returns-2 : tie.Need-returns
+returns-2 c hs S = contrary c.is_free.result (slot_at hs c.args.number ≡ free) (c.is_free.ensures hs S)
 
-pub has-tree-spec : {M : Type 1} → statement M
-has-tree-spec = tie.close (tie.spec returns is-free-requires returns-2)
+pub has_tree_spec : {M : Type 1} → statement M
+has_tree_spec = tie.close (tie.spec returns is-free-requires returns-2)

@@ -15,62 +15,62 @@ use Rattle.index_calls.proofs.Calling.{ask-barred, allowed, ask-listed, number-i
 use Rattle.index_calls.proofs.index_neighbours_call.Statement.{statement}
 use Rattle.index_calls.proofs.index_neighbours_call.Tie as tie
 
-enough-requires : tie.Need-enough-requires
+enough-requires : tie.Need-enough-list_fits-requires
 enough-requires c κs = search rules
 
-enough-requires-2 : tie.Need-enough-requires-2
+enough-requires-2 : tie.Need-enough-fits-requires
 enough-requires-2 c κs = search rules
 
 -- both sizes are looked at
-module _ (e : tie.After-enough2) where
+module _ (e : tie.After-enough-fits) where
   abbrev start : tie.Start
   start = e.before.before.before.before
 
-  told : e.enough2.result ≡ enough (ask_slices start.args.memory.now start.args.list.now)
-  told = e.enough2.ensures ∙ ap (λ (b : Bool). leb index_bytes (length start.args.memory.now) && b) e.before.enough.ensures
+  told : e.enough-fits.result ≡ enough (ask_slices start.args.memory.now start.args.list.now)
+  told = e.enough-fits.ensures ∙ ap (λ (b : Bool). leb index_bytes (length start.args.memory.now) && b) e.enough-list_fits.ensures
 
-  module _ (fits : e.enough2.result ≡ true) where
+  module _ (fits : e.enough-fits.result ≡ true) where
     long : index_bytes ≤ length start.args.memory.now
     long = (enough-ample (ask_slices start.args.memory.now start.args.list.now) (sym told ∙ fits)).0
 
     room : max_trees ≤ length start.args.list.now
     room = (enough-ample (ask_slices start.args.memory.now start.args.list.now) (sym told ∙ fits)).1
 
-barred-requires : tie.Need-barred-requires
+barred-requires : tie.Need-barred-line-requires
 barred-requires c κs = long c
 
-refusal-at-zero-requires : tie.Need-refusal-at-zero-requires
+refusal-at-zero-requires : tie.Need-refusal_at_zero-requires
 refusal-at-zero-requires c κs = search rules
 
-returns : tie.Need-returns
+returns : tie.Need-returns-then-line-ne0
 returns c =
     let b = c.before.before in
     let e = b.before in
     let a = (start e).args in
-    ask-barred a.number a.memory.now a.list.now e.enough2.result (told e) b.barred.ensures c.before.if1.true c.refusal-at-zero.ensures
+    ask-barred a.number a.memory.now a.list.now c.enough-fits.result (told e) c.barred-line.ensures c.if-line-ne0.true c.refusal_at_zero.ensures
 
-list-neighbours-requires : tie.Need-list-neighbours-requires
+list-neighbours-requires : tie.Need-list_neighbours-requires
 list-neighbours-requires c κs =
     let b = c.before.before in
     let e = b.before in
-    let (v, t, d, enough-lent) = allowed b.barred.ensures c.before.if1.false in
+    let (v, t, d, enough-lent) = allowed c.barred-line.ensures c.if-line-ne0.false in
     (record { valid = v; long = long e enough-lent; inside = number-inside v (start e).args.number d }, room e enough-lent)
 
-same_length : tie.Need-same-length
+same_length : tie.Need-shape_of-list
 same_length c = search rules
 
-returns-2 : tie.Need-returns-2
+returns-2 : tie.Need-returns
 returns-2 c =
     let w = c.before.before in
     let l = w.before.before in
     let b = l.before in
     let e = b.before in
     let a = (start e).args in
-    let (v, t, d, enough-lent) = allowed b.barred.ensures l.if1.false in
-    ask-listed a.number a.memory.now a.list.now e.enough2.result (told e) enough-lent (room e enough-lent) v d (w.list-neighbours.ensures v.slots v.index)
+    let (v, t, d, enough-lent) = allowed c.barred-line.ensures c.if-line-ne0.false in
+    ask-listed a.number a.memory.now a.list.now c.enough-fits.result (told e) enough-lent (room e enough-lent) v d (c.list_neighbours.ensures v.slots v.index)
 
-pub index-neighbours-call-spec : {M : Type 1} → statement M
-index-neighbours-call-spec =
+pub index_neighbours_call_spec : {M : Type 1} → statement M
+index_neighbours_call_spec =
     tie.close
     (tie.spec
     enough-requires

@@ -18,53 +18,52 @@ use Rattle.index_calls.proofs.Firsts.{first-le, line-alone, line-beside, FirstKe
 use Rattle.index_calls.proofs.unlike_held.Statement.{statement}
 use Rattle.index_calls.proofs.unlike_held.Tie as tie
 
-first-held-requires : tie.Need-first-held-requires
+first-held-requires : tie.Need-first_held-first-requires
 first-held-requires c κs = search rules
 
 untaken-requires : tie.Need-untaken-requires
 untaken-requires c κs = search rules
 
-returns : tie.Need-returns
+returns : tie.Need-returns-then-first-eq-MAX_TREES
 returns c hs x S k =
-    let d = c.before.before in
-    c.untaken.ensures ∙ ap (untaken rooted_only) k.kind ∙ line-alone S.trees x (sym (d.first-held.ensures hs S) ∙ c.before.if1.true)
+    c.untaken.ensures ∙ ap (untaken rooted_only) k.kind ∙ line-alone S.trees x (sym (c.first_held-first.ensures hs S) ∙ c.if-first-eq-MAX_TREES.true)
 
 -- a tree is held, and the first of them was found
-module _ (d : tie.Else1) where
+module _ (d : tie.Else-first-eq-MAX_TREES) where
   abbrev memory : List ℕ
-  memory = d.before.before.before.args.memory.now
+  memory = d.args.memory.now
 
-  first-is : {hs : List Slot} → Shelved hs memory → d.before.first-held.result ≡ first_held hs
-  first-is {hs} S = d.before.first-held.ensures hs S
+  first-is : {hs : List Slot} → Shelved hs memory → d.first_held-first.result ≡ first_held hs
+  first-is {hs} S = d.first_held-first.ensures hs S
 
   inside : {hs : List Slot} → Shelved hs memory → first_held hs < max_trees
-  inside {hs} S = omega (arith, first-is S, first-le hs, S.trees.many, d.if1.left)
+  inside {hs} S = omega (arith, first-is S, first-le hs, S.trees.many, d.if-first-eq-MAX_TREES.false)
 
-  kept : {hs : List Slot} → Shelved hs memory → (tree : Tree) → tree ≡ tree_in memory d.before.first-held.result → (f : FirstKept hs memory)
+  kept : {hs : List Slot} → Shelved hs memory → (tree : Tree) → tree ≡ tree_in memory d.first_held-first.result → (f : FirstKept hs memory)
       → KeepsKind tree (record { kind = rooted; tree = f.tree })
   kept S tree e f = subst (λ (r : Tree). KeepsKind r (record { kind = rooted; tree = f.tree })) (sym (e ∙ ap (tree_in memory) (first-is S))) f.keeps
 
-tree-at-requires : tie.Need-tree-at-requires
+tree-at-requires : tie.Need-tree_at-requires
 tree-at-requires c κs =
-    let S = c.before.before.before.requires.0.shelved in
+    let S = c.requires.0.shelved in
     (S.long, subst (λ (x : ℕ). x < max_trees) (sym (first-is c S)) (inside c S))
 
 unlike-requires : tie.Need-unlike-requires
 unlike-requires c κs =
     let d = c.before in
-    let (s, t) = d.before.before.before.requires in
+    let (s, t) = c.requires in
     let S = s.shelved in
-    let k = kept d S c.tree-at.result c.tree-at.ensures (first-kept S (inside d S)) in
+    let k = kept d S c.tree_at.result c.tree_at.ensures (first-kept S (inside d S)) in
     (record { topology = _; keeps = k.keeps }, record { topology = _; keeps = t.keeps.keeps })
 
-returns-2 : tie.Need-returns-2
+returns-2 : tie.Need-returns
 returns-2 c hs x S k =
     let d = c.before.before in
     let f = first-kept S (inside d S) in
-    c.unlike.ensures (record { kind = rooted; tree = f.tree }) x (kept d S c.before.tree-at.result c.before.tree-at.ensures f) k ∙ line-beside S.trees x f.leads
+    c.unlike.ensures (record { kind = rooted; tree = f.tree }) x (kept d S c.tree_at.result c.tree_at.ensures f) k ∙ line-beside S.trees x f.leads
 
-pub unlike-held-spec : {M : Type 1} → statement M
-unlike-held-spec =
+pub unlike_held_spec : {M : Type 1} → statement M
+unlike_held_spec =
     tie.close
     (tie.spec
     first-held-requires

@@ -7,11 +7,11 @@ use Rattle.interchanges.proofs.Walk.{kept-says}
 use Rattle.interchanges.proofs.one_interchange_apart.Statement.{statement}
 use Rattle.interchanges.proofs.one_interchange_apart.Tie as tie
 
-walk-down-requires : tie.Need-walk-down-requires
-walk-down-requires c κs = let p = c.before.before.before.before.before.before.requires in (kept-in-order p.0, kept-in-order p.1)
+walk-down-requires : tie.Need-walk_down-requires
+walk-down-requires c κs = let p = c.requires in (kept-in-order p.0, kept-in-order p.1)
 
 returns : tie.Need-returns
-returns c t u k l = kept-says k l c.walk-down.result (c.walk-down.ensures (canon t) (canon u) (keeps-holds k) (keeps-holds l))
+returns c t u k l = kept-says k l c.walk_down.result (c.walk_down.ensures (canon t) (canon u) (keeps-holds k) (keeps-holds l))
 
-pub one-interchange-apart-spec : {M : Type 1} → statement M
-one-interchange-apart-spec = tie.close (tie.spec walk-down-requires returns)
+pub one_interchange_apart_spec : {M : Type 1} → statement M
+one_interchange_apart_spec = tie.close (tie.spec walk-down-requires returns)

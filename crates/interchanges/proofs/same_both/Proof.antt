@@ -8,22 +8,22 @@ use Rattle.interchanges.proofs.Parts.{both-says}
 use Rattle.interchanges.proofs.same_both.Statement.{statement}
 use Rattle.interchanges.proofs.same_both.Tie as tie
 
-same-subtree-requires : tie.Need-same-subtree-requires
+same-subtree-requires : tie.Need-same_subtree-requires
 same-subtree-requires c κs = search rules
 
-returns : tie.Need-returns
+returns : tie.Need-returns-then-not-same_subtree
 returns c s t u v g h k l both =
-    let one = c.before.same-subtree in
-    denied (s ≡ u) (not-true one.result c.if1.true) (one.ensures s u g k) both.one
+    let one = c.same_subtree in
+    denied (s ≡ u) (not-true one.result c.if-not-same_subtree.true-raw) (one.ensures s u g k) both.one
 
-same-subtree-requires-2 : tie.Need-same-subtree-requires-2
+same-subtree-requires-2 : tie.Need-same_subtree-requires-2
 same-subtree-requires-2 c κs = search rules
 
-returns-2 : tie.Need-returns-2
+returns-2 : tie.Need-returns
 returns-2 c s t u v g h k l =
-    let one = c.before.before.same-subtree in
-    both-says t v (said (s ≡ u) (not-false one.result c.before.if1.false) (one.ensures s u g k)) c.same-subtree2.result (c.same-subtree2.ensures t v h l)
+    let one = c.same_subtree in
+    both-says t v (said (s ≡ u) (not-false one.result c.if-not-same_subtree.false-raw) (one.ensures s u g k)) c.same_subtree-2.result (c.same_subtree-2.ensures t v h l)
 
-pub same-both-spec : {M : Type 1} → statement M
-same-both-spec =
+pub same_both_spec : {M : Type 1} → statement M
+same_both_spec =
     tie.close (tie.spec same-subtree-requires returns same-subtree-requires-2 returns-2)

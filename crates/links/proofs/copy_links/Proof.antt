@@ -20,108 +20,107 @@ Copied linked firsts i j = link_of linked (get_or firsts i 0) (get_or firsts j 0
 abbrev CopiedTo : List ℕ → List ℕ → ℕ → ℕ → List ℕ → Type 0
 CopiedTo linked firsts n place links = (length links ≡ link_bytes) × ShowsTo place links n (Copied linked firsts)
 
-abbrev invariant-loop2 : tie.invariant-loop2
+abbrev invariant-loop2 : tie.invariant-loop-j
 invariant-loop2 links₀ linked firsts n i j₀ links j = (i < j) × CopiedTo linked firsts n (i * 160 + j) links
 
-abbrev decreases-loop2 : tie.decreases-loop2
+abbrev decreases-loop2 : tie.decreases-loop-j
 decreases-loop2 links₀ linked firsts n i j₀ links j = n - j
 
-abbrev invariant-loop : tie.invariant-loop
+abbrev invariant-loop : tie.invariant-loop-i
 invariant-loop links₀ linked firsts n i₀ links i = CopiedTo linked firsts n (i * 160) links
 
-abbrev decreases-loop : tie.decreases-loop
+abbrev decreases-loop : tie.decreases-loop-i
 decreases-loop links₀ linked firsts n i₀ links i = n - i
 
 -- the function's entry, from the head of the inner loop
-abbrev start : tie.At-loop2 invariant-loop2 decreases-loop2 invariant-loop decreases-loop → tie.Start invariant-loop2 decreases-loop2 invariant-loop decreases-loop
+abbrev start : tie.At-loop-j invariant-loop2 decreases-loop2 invariant-loop decreases-loop → tie.Start invariant-loop2 decreases-loop2 invariant-loop decreases-loop
 start c = c.before.before.before.before
 
-loop-holds : tie.Need-loop-init invariant-loop2 decreases-loop2 invariant-loop decreases-loop
-loop-holds c = (c.before.requires.bytes, λ i j _ _ none. absurd (omega arith))
+loop-holds : tie.Need-loop-i-init invariant-loop2 decreases-loop2 invariant-loop decreases-loop
+loop-holds c = (c.requires.bytes, λ i j _ _ none. absurd (omega arith))
 
-add-j : tie.Need-overflow-add-j invariant-loop2 decreases-loop2 invariant-loop decreases-loop
-add-j c = omega (arith, c.loop-test.true, c.before.before.before.requires.few)
+add-j : tie.Need-overflow_step-j invariant-loop2 decreases-loop2 invariant-loop decreases-loop
+add-j c = omega (arith, c.loop-i-test.true, c.requires.few)
 
 -- a turn's positions are among n, of which there are at most 160
-inside : (c : tie.In-loop2 invariant-loop2 decreases-loop2 invariant-loop decreases-loop) → c.before.loop2.j < (start c.before).args.n
-inside c = c.loop2-test.true
+inside : (c : tie.In-loop-j invariant-loop2 decreases-loop2 invariant-loop decreases-loop) → c.loop-j.j < c.args.n
+inside c = c.loop-j-test.true
 
-row : (c : tie.In-loop2 invariant-loop2 decreases-loop2 invariant-loop decreases-loop) → c.before.before.before.loop.i < (start c.before).args.n
-row c = omega (arith, c.before.loop2.invariant.0, inside c)
+row : (c : tie.In-loop-j invariant-loop2 decreases-loop2 invariant-loop decreases-loop) → c.loop-i.i < c.args.n
+row c = omega (arith, c.loop-j.invariant.0, inside c)
 
-loop2-holds : tie.Need-loop2-init invariant-loop2 decreases-loop2 invariant-loop decreases-loop
-loop2-holds c = let inv = c.before.loop.invariant in (omega arith, (inv.0, shows-passed c.before.loop.links (λ i j lt l before. omega arith) inv.1))
+loop2-holds : tie.Need-loop-j-init invariant-loop2 decreases-loop2 invariant-loop decreases-loop
+loop2-holds c = let inv = c.loop-i.invariant in (omega arith, (inv.0, shows-passed c.loop-i.links (λ i j lt l before. omega arith) inv.1))
 
-mul-a : tie.Need-overflow-mul-a invariant-loop2 decreases-loop2 invariant-loop decreases-loop
-mul-a c = omega (arith, row c, (start c.before).pre.few)
+mul-a : tie.Need-offset_bounds-firsts-i invariant-loop2 decreases-loop2 invariant-loop decreases-loop
+mul-a c = omega (arith, row c, c.requires.few)
 
-shared-slice-read-a : tie.Need-shared-slice-read-a invariant-loop2 decreases-loop2 invariant-loop decreases-loop
-shared-slice-read-a c = omega (arith, row c.before, (start c.before.before).pre.lent)
+shared-slice-read-a : tie.Need-bounds-firsts-i invariant-loop2 decreases-loop2 invariant-loop decreases-loop
+shared-slice-read-a c = omega (arith, row c.before, c.requires.lent)
 
-cast-a : tie.Need-overflow-cast-a invariant-loop2 decreases-loop2 invariant-loop decreases-loop
-cast-a c = let s = (start c.before.before).pre in omega (arith, s.below _ (row c.before))
+cast-a : tie.Need-overflow_cast-a invariant-loop2 decreases-loop2 invariant-loop decreases-loop
+cast-a c = let s = c.requires in omega (arith, s.below _ (row c.before))
 
-mul-b : tie.Need-overflow-mul-b invariant-loop2 decreases-loop2 invariant-loop decreases-loop
-mul-b c = omega (arith, inside c.before, (start c.before.before).pre.few)
+mul-b : tie.Need-offset_bounds-firsts-j invariant-loop2 decreases-loop2 invariant-loop decreases-loop
+mul-b c = omega (arith, inside c.before, c.requires.few)
 
-shared-slice-read-b : tie.Need-shared-slice-read-b invariant-loop2 decreases-loop2 invariant-loop decreases-loop
-shared-slice-read-b c = omega (arith, inside c.before.before, (start c.before.before.before).pre.lent)
+shared-slice-read-b : tie.Need-bounds-firsts-j invariant-loop2 decreases-loop2 invariant-loop decreases-loop
+shared-slice-read-b c = omega (arith, inside c.before.before, c.requires.lent)
 
-cast-b : tie.Need-overflow-cast-b invariant-loop2 decreases-loop2 invariant-loop decreases-loop
-cast-b c = let s = (start c.before.before.before).pre in omega (arith, s.below _ (inside c.before.before))
+cast-b : tie.Need-overflow_cast-b invariant-loop2 decreases-loop2 invariant-loop decreases-loop
+cast-b c = let s = c.requires in omega (arith, s.below _ (inside c.before.before))
 
-link-of-requires : tie.Need-link-of-requires invariant-loop2 decreases-loop2 invariant-loop decreases-loop
-link-of-requires c κs = let s = (start c.before.before.before).pre in (s.below _ (row c.before.before), s.below _ (inside c.before.before))
+link-of-requires : tie.Need-link_of-requires invariant-loop2 decreases-loop2 invariant-loop decreases-loop
+link-of-requires c κs = let s = c.requires in (s.below _ (row c.before.before), s.below _ (inside c.before.before))
 
-mul-links : tie.Need-overflow-mul-links invariant-loop2 decreases-loop2 invariant-loop decreases-loop
-mul-links c = omega (arith, row c.before.before.before, (start c.before.before.before.before).pre.few)
+mul-links : tie.Need-overflow_mul-links invariant-loop2 decreases-loop2 invariant-loop decreases-loop
+mul-links c = omega (arith, row c.before.before.before, c.requires.few)
 
-add-links : tie.Need-overflow-add-links invariant-loop2 decreases-loop2 invariant-loop decreases-loop
-add-links c = omega (arith, row c.before.before.before, inside c.before.before.before, (start c.before.before.before.before).pre.few)
+add-links : tie.Need-overflow_add-links invariant-loop2 decreases-loop2 invariant-loop decreases-loop
+add-links c = omega (arith, row c.before.before.before, inside c.before.before.before, c.requires.few)
 
-element-write-links : tie.Need-element-write-links invariant-loop2 decreases-loop2 invariant-loop decreases-loop
-element-write-links c = omega (arith, row c.before.before.before, inside c.before.before.before, (start c.before.before.before.before).pre.few)
+element-write-links : tie.Need-bounds-links-i invariant-loop2 decreases-loop2 invariant-loop decreases-loop
+element-write-links c = omega (arith, row c.before.before.before.before, inside c.before.before.before.before, c.requires.few)
 
-add-j-2 : tie.Need-overflow-add-j-2 invariant-loop2 decreases-loop2 invariant-loop decreases-loop
-add-j-2 c = omega (arith, inside c.before.before.before, (start c.before.before.before.before).pre.few)
+add-j-2 : tie.Need-overflow_step-j-in-loop-j invariant-loop2 decreases-loop2 invariant-loop decreases-loop
+add-j-2 c = omega (arith, inside c.before.before.before.before, c.requires.few)
 
-loop2-less : tie.Need-loop2-smaller invariant-loop2 decreases-loop2 invariant-loop decreases-loop
-loop2-less c = omega (arith, inside c.before.before.before)
+loop2-less : tie.Need-loop-j-smaller invariant-loop2 decreases-loop2 invariant-loop decreases-loop
+loop2-less c = omega (arith, inside c.before.before.before.before)
 
-loop2-again : tie.Need-loop2-preserved invariant-loop2 decreases-loop2 invariant-loop decreases-loop
+loop2-again : tie.Need-loop-j-preserved invariant-loop2 decreases-loop2 invariant-loop decreases-loop
 loop2-again c =
-    let turn = c.before.before.before in
-    let l = turn.before in
-    let a = (start l).args in
-    let i = l.before.before.loop.i in
-    let j = l.loop2.j in
-    let inv = l.loop2.invariant in
-    let told : (c.link-of.result ≡ 1) ↔ Copied a.linked.now a.firsts.now i j = rw c.link-of.ensures (λ e. e, λ e. e) in (
+    let turn = c.before.before.before.before in
+    let a = c.args in
+    let i = c.loop-i.i in
+    let j = c.loop-j.j in
+    let inv = c.loop-j.invariant in
+    let told : (c.link_of.result ≡ 1) ↔ Copied a.linked.now a.firsts.now i j = rw c.link_of.ensures (λ e. e, λ e. e) in (
       omega (arith, inv.0),
       (
         simp length-set inv.1.0,
-        shows_more (Copied a.linked.now a.firsts.now) l.loop2.links a.n i j c.link-of.result (start l).requires.few (inside turn)
-            (omega (arith, inv.1.0, row turn, inside turn, (start l).requires.few)) told inv.1.1,
+        shows_more (Copied a.linked.now a.firsts.now) c.loop-j.links a.n i j c.link_of.result c.requires.few (inside turn)
+            (omega (arith, inv.1.0, row turn, inside turn, c.requires.few)) told inv.1.1,
       ),
     )
 
-add-i : tie.Need-overflow-add-i invariant-loop2 decreases-loop2 invariant-loop decreases-loop
-add-i c = omega (arith, c.before.before.loop-test.true, (start c.before).pre.few)
+add-i : tie.Need-overflow_step-i invariant-loop2 decreases-loop2 invariant-loop decreases-loop
+add-i c = omega (arith, c.loop-i-test.true, c.requires.few)
 
-loop-less : tie.Need-loop-smaller invariant-loop2 decreases-loop2 invariant-loop decreases-loop
-loop-less c = omega (arith, c.before.before.loop-test.true)
+loop-less : tie.Need-loop-i-smaller invariant-loop2 decreases-loop2 invariant-loop decreases-loop
+loop-less c = omega (arith, c.loop-i-test.true)
 
-loop-again : tie.Need-loop-preserved invariant-loop2 decreases-loop2 invariant-loop decreases-loop
+loop-again : tie.Need-loop-i-preserved invariant-loop2 decreases-loop2 invariant-loop decreases-loop
 loop-again c =
-    let inv = c.before.loop2.invariant in
-    let few = (start c.before).pre.few in
-    (inv.1.0, shows-passed c.before.loop2.links (λ i j lt l before. omega (arith, few, c.loop2-test.false)) inv.1.1)
+    let inv = c.loop-j.invariant in
+    let few = c.requires.few in
+    (inv.1.0, shows-passed c.loop-j.links (λ i j lt l before. omega (arith, few, c.loop-j-test.false)) inv.1.1)
 
 returns : tie.Need-returns invariant-loop2 decreases-loop2 invariant-loop decreases-loop
-returns c i j lt inside = c.before.loop.invariant.1 i j lt inside (omega (arith, c.loop-test.false))
+returns c i j lt inside = c.loop-i.invariant.1 i j lt inside (omega (arith, c.loop-i-test.false))
 
-pub copy-links-spec : {M : Type 1} → statement M
-copy-links-spec =
+pub copy_links_spec : {M : Type 1} → statement M
+copy_links_spec =
     tie.close
     (tie.spec
     invariant-loop2

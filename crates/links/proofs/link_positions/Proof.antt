@@ -9,34 +9,33 @@ use Rattle.links.proofs.Linked.{merged-linked, copy-room, kept-linked}
 use Rattle.links.proofs.link_positions.Statement.{statement}
 use Rattle.links.proofs.link_positions.Tie as tie
 
-enum_told : tie.Need-enum-told
+enum_told : tie.Need-enum_told-1
 enum_told c = search rules
 
-link-firsts-requires : tie.Need-link-firsts-requires
+link-firsts-requires : tie.Need-link_firsts-requires
 link-firsts-requires c κs = search rules
 
-enum-told-2 : tie.Need-enum-told-2
+enum-told-2 : tie.Need-enum_told-in-KeptApart
 enum-told-2 c = search rules
 
-link-firsts-requires-2 : tie.Need-link-firsts-requires-2
+link-firsts-requires-2 : tie.Need-link_firsts-requires-in-KeptApart
 link-firsts-requires-2 c κs =
-    let p = c.before.before.before.before.requires.0 in
+    let p = c.requires.0 in
     (record { kept = p.kept; noted = p.noted; lent = p.lent; bytes = length-replicate {A = ℕ} link_bytes 0 }, zeros-at link_bytes)
 
-copy-links-requires : tie.Need-copy-links-requires
-copy-links-requires c κs = copy-room c.before.before.before.before.before.before.before.requires.0
+copy-links-requires : tie.Need-copy_links-requires
+copy-links-requires c κs = copy-room c.requires.0
 
-returns : tie.Need-returns
-returns c = merged-linked c.before.before.before.before.before.args.by c.link-firsts.new.0 c.before.before.enum_told.given.1 c.link-firsts.ensures
+returns : tie.Need-returns-in-Merged
+returns c = merged-linked c.args.by c.link_firsts.new.links c.in-Merged.is c.link_firsts.ensures
 
-returns-2 : tie.Need-returns-2
+returns-2 : tie.Need-returns-in-KeptApart
 returns-2 c =
-    let start = c.before.before.before.before.before.before.before.before in
-    kept-linked start.args.by start.args.firsts.now c.before.before.before.link-firsts2.new.0 c.copy-links.new.0
-    c.before.before.before.before.before.enum-told2.given.1 start.requires.0.noted c.before.before.before.link-firsts2.ensures c.copy-links.ensures
+    kept-linked c.args.by c.args.firsts.now c.link_firsts-in-KeptApart.new.links c.copy_links.new.links
+    c.in-KeptApart.is c.requires.0.noted c.link_firsts-in-KeptApart.ensures c.copy_links.ensures
 
-pub link-positions-spec : {M : Type 1} → statement M
-link-positions-spec =
+pub link_positions_spec : {M : Type 1} → statement M
+link_positions_spec =
     tie.close
     (tie.spec
     enum_told

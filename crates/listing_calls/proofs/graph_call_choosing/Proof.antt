@@ -16,64 +16,63 @@ use Rattle.listing_calls.proofs.graph_call_choosing.Statement.{statement}
 use Rattle.listing_calls.proofs.graph_call_choosing.Tie as tie
 
 -- the entry and the lent memory, from where the text was read, and what the call is given
-abbrev start : tie.After-read-lent-table → tie.Start
+abbrev start : tie.After-read_lent_table-read → tie.Start
 start d = d.before.before.before.before.before.before.before.before
 
-abbrev memory : tie.After-read-lent-table → FirstsMemory
-memory d = first_slices (start d).args.pairs.now (start d).args.counts.now (start d).args.firsts.now
+abbrev memory : tie.After-read_lent_table-read → FirstsMemory
+memory d = first_slices d.args.pairs.now d.args.counts.now d.args.firsts.now
 
-given : (d : tie.After-read-lent-table) → TableLent d.read-lent-table.result (firsts_read (start d).args.s.now (memory d))
+given : (d : tie.After-read_lent_table-read) → TableLent d.read_lent_table-read.result (firsts_read d.args.s.now (memory d))
 given d =
-    let measures = d.before in
     let others =
-    measures.before.enough2.ensures ∙ ap (λ (b : Bool). leb max_trees (length (memory d).graph.counts) && b) measures.before.before.enough.ensures in
-    measured _ (measures.enough3.ensures ∙ ap (λ (b : Bool). leb pair_numbers (length (memory d).graph.pairs) && b) others) d.read-lent-table.ensures
+    d.enough-counts_fit.ensures ∙ ap (λ (b : Bool). leb max_trees (length (memory d).graph.counts) && b) d.enough-firsts_fit.ensures in
+    measured _ (d.enough-fits.ensures ∙ ap (λ (b : Bool). leb pair_numbers (length (memory d).graph.pairs) && b) others) d.read_lent_table-read.ensures
 
-enough-requires : tie.Need-enough-requires
+enough-requires : tie.Need-enough-firsts_fit-requires
 enough-requires c κs = search rules
 
-enough-requires-2 : tie.Need-enough-requires-2
+enough-requires-2 : tie.Need-enough-counts_fit-requires
 enough-requires-2 c κs = search rules
 
-enough-requires-3 : tie.Need-enough-requires-3
+enough-requires-3 : tie.Need-enough-fits-requires
 enough-requires-3 c κs = search rules
 
-read-lent-table-requires : tie.Need-read-lent-table-requires
+read-lent-table-requires : tie.Need-read_lent_table-read-requires
 read-lent-table-requires c κs = search rules
 
-enum-known-step : tie.Need-enum-known-step
+enum-known-step : tie.Need-enum_known-step
 enum-known-step c = search rules
 
-enum-known-step-2 : tie.Need-enum-known-step-2
+enum-known-step-2 : tie.Need-enum_known-step-in-Next-1
 enum-known-step-2 c = search rules
 
-list-moves-requires : tie.Need-list-moves-requires
+list-moves-requires : tie.Need-list_moves-requires
 list-moves-requires c κs =
-    let d = c.before.before.before.before.before.before in
-    graph-room (start d).args.s.now (memory d) (given d) c.before.before.before.before.step2.given.1
+    let d = c.before.before.before.before.before in
+    graph-room c.args.s.now (memory d) (given d) c.in-Next.is
 
-returns : tie.Need-returns
+returns : tie.Need-returns-in-Refused
 returns c =
-    let d = c.before.before.before in
-    graph-refused (start d).args.s.now (memory d) (given d) (start d).args.copies c.before.step.given.1
+    let d = c.before in
+    graph-refused c.args.s.now (memory d) (given d) c.args.copies c.in-Refused.is
 
-same_length : tie.Need-same-length
+same_length : tie.Need-shape_of-pairs
 same_length c = search rules
 
-same-length-2 : tie.Need-same-length-2
+same-length-2 : tie.Need-shape_of-counts
 same-length-2 c = search rules
 
-same-length-3 : tie.Need-same-length-3
+same-length-3 : tie.Need-shape_of-firsts
 same-length-3 c = search rules
 
-returns-2 : tie.Need-returns-2
+returns-2 : tie.Need-returns-in-Next
 returns-2 c =
     let w = c.before.before.before.before.before.before in
-    let d = w.before.before.before.before.before.before.before in
-    graph-listed (start d).args.s.now (memory d) (given d) w.before.before.before.before.before.step2.given.1 (start d).args.copies w.list-moves.ensures
+    let d = w.before.before.before.before.before.before in
+    graph-listed c.args.s.now (memory d) (given d) c.in-Next.is c.args.copies c.list_moves.ensures
 
-pub graph-call-choosing-spec : {M : Type 1} → statement M
-graph-call-choosing-spec =
+pub graph_call_choosing_spec : {M : Type 1} → statement M
+graph_call_choosing_spec =
     tie.close
     (tie.spec
     enough-requires

@@ -16,56 +16,56 @@ use Rattle.listing_calls.proofs.interchange_call.Statement.{statement}
 use Rattle.listing_calls.proofs.interchange_call.Tie as tie
 
 -- the entry and the lent memory, from where the text was read, and what the call is given
-abbrev start : tie.After-read-lent-table → tie.Start
+abbrev start : tie.After-read_lent_table-read → tie.Start
 start d = d.before.before.before.before.before.before
 
-abbrev memory : tie.After-read-lent-table → GraphMemory
-memory d = slices (start d).args.pairs.now (start d).args.counts.now
+abbrev memory : tie.After-read_lent_table-read → GraphMemory
+memory d = slices d.args.pairs.now d.args.counts.now
 
-given : (d : tie.After-read-lent-table) → TableLent d.read-lent-table.result (graph_read (start d).args.s.now (memory d))
+given : (d : tie.After-read_lent_table-read) → TableLent d.read_lent_table-read.result (graph_read d.args.s.now (memory d))
 given d =
-    let fits = d.before.enough2.ensures ∙ ap (λ (b : Bool). leb pair_numbers (length (memory d).pairs) && b) d.before.before.enough.ensures in
-    measured _ fits d.read-lent-table.ensures
+    let fits = d.enough-fits.ensures ∙ ap (λ (b : Bool). leb pair_numbers (length (memory d).pairs) && b) d.enough-counts_fit.ensures in
+    measured _ fits d.read_lent_table-read.ensures
 
-enough-requires : tie.Need-enough-requires
+enough-requires : tie.Need-enough-counts_fit-requires
 enough-requires c κs = search rules
 
-enough-requires-2 : tie.Need-enough-requires-2
+enough-requires-2 : tie.Need-enough-fits-requires
 enough-requires-2 c κs = search rules
 
-read-lent-table-requires : tie.Need-read-lent-table-requires
+read-lent-table-requires : tie.Need-read_lent_table-read-requires
 read-lent-table-requires c κs = search rules
 
-enum-known-step : tie.Need-enum-known-step
+enum-known-step : tie.Need-enum_known-step
 enum-known-step c = search rules
 
-enum-known-step-2 : tie.Need-enum-known-step-2
+enum-known-step-2 : tie.Need-enum_known-step-in-Next-1
 enum-known-step-2 c = search rules
 
-list-interchanges-requires : tie.Need-list-interchanges-requires
+list-interchanges-requires : tie.Need-list_interchanges-requires
 list-interchanges-requires c κs =
-    let d = c.before.before.before.before.before in
-    interchange-room (start d).args.s.now (memory d) (given d) c.before.before.before.step2.given.1
+    let d = c.before.before.before.before in
+    interchange-room c.args.s.now (memory d) (given d) c.in-Next.is
 
-returns : tie.Need-returns
+returns : tie.Need-returns-in-Refused
 returns c =
-    let d = c.before.before.before in
-    interchange-refused (start d).args.s.now (memory d) (given d) c.before.step.given.1
+    let d = c.before in
+    interchange-refused c.args.s.now (memory d) (given d) c.in-Refused.is
 
-same_length : tie.Need-same-length
+same_length : tie.Need-shape_of-pairs
 same_length c = search rules
 
-same-length-2 : tie.Need-same-length-2
+same-length-2 : tie.Need-shape_of-counts
 same-length-2 c = search rules
 
-returns-2 : tie.Need-returns-2
+returns-2 : tie.Need-returns-in-Next
 returns-2 c =
     let w = c.before.before.before.before in
-    let d = w.before.before.before.before.before.before in
-    interchange-listed (start d).args.s.now (memory d) (given d) w.before.before.before.before.step2.given.1 w.list-interchanges.ensures
+    let d = w.before.before.before.before.before in
+    interchange-listed c.args.s.now (memory d) (given d) c.in-Next.is c.list_interchanges.ensures
 
-pub interchange-call-spec : {M : Type 1} → statement M
-interchange-call-spec =
+pub interchange_call_spec : {M : Type 1} → statement M
+interchange_call_spec =
     tie.close
     (tie.spec
     enough-requires

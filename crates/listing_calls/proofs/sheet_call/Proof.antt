@@ -16,36 +16,35 @@ abbrev start : tie.After-enough → tie.Start
 start d = d.before.before.before
 
 -- a slice that is long enough
-fits : (c : tie.Else1) → enough (sheet_slices (start c.before).args.out.now) ≡ true
-fits c = sym c.before.enough.ensures ∙ not-false c.before.enough.result c.if1.false
+fits : (c : tie.Else-not-enough) → enough (sheet_slices c.args.out.now) ≡ true
+fits c = sym c.enough.ensures ∙ not-false c.enough.result c.if-not-enough.false-raw
 
 enough-requires : tie.Need-enough-requires
 enough-requires c κs = search rules
 
-refusal-at-zero-requires : tie.Need-refusal-at-zero-requires
+refusal-at-zero-requires : tie.Need-refusal_at_zero-requires
 refusal-at-zero-requires c κs = search rules
 
-returns : tie.Need-returns
+returns : tie.Need-returns-then-not-enough
 returns c =
-    let d = c.before.before in
-    let a = (start d).args in
-    sheet-refused a.s.now a.out.now (sym d.enough.ensures ∙ not-true d.enough.result c.before.if1.true) c.refusal-at-zero.ensures
+    let a = c.args in
+    sheet-refused a.s.now a.out.now (sym c.enough.ensures ∙ not-true c.enough.result c.if-not-enough.true-raw) c.refusal_at_zero.ensures
 
-print-sheet-requires : tie.Need-print-sheet-requires
-print-sheet-requires c κs = enough-ample (sheet_slices (start c.before.before).args.out.now) (fits c.before)
+print-sheet-requires : tie.Need-print_sheet-requires
+print-sheet-requires c κs = enough-ample (sheet_slices c.args.out.now) (fits c.before)
 
-same_length : tie.Need-same-length
+same_length : tie.Need-shape_of-out
 same_length c = search rules
 
-returns-2 : tie.Need-returns-2
+returns-2 : tie.Need-returns
 returns-2 c =
     let w = c.before.before in
     let e = w.before.before in
-    let a = (start e.before).args in
-    sheet-printed a.s.now a.out.now (fits e) w.print-sheet.ensures
+    let a = c.args in
+    sheet-printed a.s.now a.out.now (fits e) c.print_sheet.ensures
 
-pub sheet-call-spec : {M : Type 1} → statement M
-sheet-call-spec =
+pub sheet_call_spec : {M : Type 1} → statement M
+sheet_call_spec =
     tie.close
     (tie.spec
     enough-requires

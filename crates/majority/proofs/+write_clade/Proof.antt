@@ -71,124 +71,120 @@ module _ (t : ℕ) where
   short s = omega arith
 
   abbrev listed : Labelled → List ℕ
-  listed l = take (start l).args.k (start l).args.clades.now
+  listed l = take l.args.k l.args.clades.now
 
   -- one label
-  write-number-requires : lts.Need-write-number-requires claims here own.Post
+  write-number-requires : lts.Need-write_number-requires claims here own.Post
   write-number-requires c κs =
-      let l = c.before.before.before in
-      let p = (start l).requires.1 in
-      let one : size (start l).args.c < 2 = omega (arith, l.labels.ensures, c.before.before.if1.true) in
+      let p = c.requires.1 in
+      let one : size c.args.c < 2 = omega (arith, c.labels.ensures, c.if-labels-lt2.true) in
       omega (arith, p.room, ap length (leaf-text p.tree p.grows one), ap (λ (n : ℕ). length (digits n)) c.smallest.ensures)
 
-  same_length : lts.Need-same-length claims here own.Post
-  same_length c = wrote-length c.before.before.write-number.ensures
+  same_length : lts.Need-shape_of-out-then-labels-lt2 claims here own.Post
+  same_length c = wrote-length c.write_number.ensures
 
-  returns : lts.Need-returns claims here own.Post
+  returns : lts.Need-returns-then-labels-lt2 claims here own.Post
   returns c =
-      let w = c.before.before in
-      let s = w.before in
-      let l = s.before.before.before in
-      λ u g. wrote-leaf u g l.labels.ensures s.before.before.if1.true s.smallest.ensures w.write-number.ensures
+      λ u g. wrote-leaf u g c.labels.ensures c.if-labels-lt2.true c.smallest.ensures c.write_number.ensures
 
   -- two labels or more: the first child is known
   abbrev Chosen : Type 0
-  Chosen = lts.After-first-child claims here own.Post
+  Chosen = lts.After-first_child-child claims here own.Post
 
   abbrev labelled : Chosen → Labelled
   labelled d = d.before.before.before
 
-  is-listed-requires : lts.Need-is-listed-requires claims here own.Post
-  is-listed-requires c κs = (start c.before).pre.1.few
+  is-listed-requires : lts.Need-is_listed-node-requires claims here own.Post
+  is-listed-requires c κs = c.requires.1.few
 
-  first-child-requires : lts.Need-first-child-requires claims here own.Post
+  first-child-requires : lts.Need-first_child-child-requires claims here own.Post
   first-child-requires c κs =
-      let p = (start c.before.before).pre.1 in
+      let p = c.requires.1 in
       (subst (λ (x : ℕ). 0 < x) p.grows.whole (clade-some p.tree), p.few)
 
-  fork-of : (d : Chosen) (u : Topology) → GrowsTo (listed (labelled d)) (start (labelled d)).args.c u → Forked (listed (labelled d)) (start (labelled d)).args.c u
-  fork-of d u g = grown-fork u g (omega (arith, (labelled d).labels.ensures, d.before.before.if1.left))
+  fork-of : (d : Chosen) (u : Topology) → GrowsTo (listed (labelled d)) d.args.c u → Forked (listed (labelled d)) d.args.c u
+  fork-of d u g = grown-fork u g (omega (arith, d.labels.ensures, d.if-labels-lt2.false))
 
   -- that of the tree for which there is room
-  abbrev own-fork : (d : Chosen) → Forked (listed (labelled d)) (start (labelled d)).args.c (start (labelled d)).pre.1.tree
-  own-fork d = let p = (start (labelled d)).pre.1 in fork-of d p.tree p.grows
+  abbrev own-fork : (d : Chosen) → Forked (listed (labelled d)) d.args.c d.requires.1.tree
+  own-fork d = let p = d.requires.1 in fork-of d p.tree p.grows
 
-  room_of : (d : Chosen) → let l = labelled d in let node = d.before.is-listed.result in
-      (start l).args.at
+  room_of : (d : Chosen) → let l = labelled d in let node = d.is_listed-node.result in
+      l.args.at
       + (length (bracket node 40) + length (marked (listed l) (own-fork d).first) + 1 + length (marked (listed l) (own-fork d).second) + length (bracket node 41))
-      ≤ length (start l).args.out.now
-  room_of d = let p = (start (labelled d)).pre.1 in omega (arith, p.room, fork-length p.grows (own-fork d) d.before.is-listed.ensures)
+      ≤ length l.args.out.now
+  room_of d = let p = d.requires.1 in omega (arith, p.room, fork-length p.grows (own-fork d) d.is_listed-node.ensures)
 
-  write-open-requires : lts.Need-write-bracket-requires claims here own.Post
+  write-open-requires : lts.Need-write_bracket-first-requires claims here own.Post
   write-open-requires c κs = omega (arith, room_of c.before)
 
   -- the opening bracket is written
   abbrev Opened : Type 0
-  Opened = lts.After-write-bracket claims here own.Post
+  Opened = lts.After-write_bracket-first claims here own.Post
 
   abbrev chosen : Opened → Chosen
   chosen o = o.before.before
 
-  length-opened : (o : Opened) → length o.write-bracket.last.0 ≡ length (start (labelled (chosen o))).args.out.now
-  length-opened o = wrote-length o.write-bracket.ensures
+  length-opened : (o : Opened) → length o.write_bracket-first.new.out ≡ length o.args.out.now
+  length-opened o = wrote-length o.write_bracket-first.ensures
 
-  write-first-requires : lts.Need-write-clade-requires claims here own.Post
+  write-first-requires : lts.Need-write_clade-comma-requires claims here own.Post
   write-first-requires c κs =
       let o = c.before.before.before in
       let d = chosen o in
-      let p = (start (labelled d)).pre in
-      let e = d.first-child.ensures in (
+      let p = d.requires in
+      let e = d.first_child-child.ensures in (
         omega (arith, (own-fork d).first-less, ap size e, p.0),
         record {
           few = p.1.few;
           tree = (own-fork d).first;
           grows = first-grown e (own-fork d);
-          room = omega (arith, room_of d, length-opened o, o.write-bracket.ensures.behind);
+          room = omega (arith, room_of d, length-opened o, c.write_bracket-first.ensures.behind);
         },
       )
 
   -- the first child is written
   abbrev First : Type 0
-  First = lts.After-write-clade claims here own.Post
+  First = lts.After-write_clade-comma claims here own.Post
 
   abbrev opened : First → Opened
   opened f = f.before.before.before.before
 
-  wrote-first : (f : First) → let o = opened f in let d = chosen o in (u : Topology) (g : GrowsTo (listed (labelled d)) (start (labelled d)).args.c u)
-      → Wrote (marked (listed (labelled d)) (fork-of d u g).first) o.write-bracket.last.0 f.write-clade.last.0 o.write-bracket.result f.write-clade.result
+  wrote-first : (f : First) → let o = opened f in let d = chosen o in (u : Topology) (g : GrowsTo (listed (labelled d)) d.args.c u)
+      → Wrote (marked (listed (labelled d)) (fork-of d u g).first) o.write_bracket-first.new.out f.write_clade-comma.new.out o.write_bracket-first.result f.write_clade-comma.result
   wrote-first f u g =
       let d = chosen (opened f) in
-      f.write-clade.ensures (fork-of d u g).first (first-grown d.first-child.ensures (fork-of d u g))
+      f.write_clade-comma.ensures (fork-of d u g).first (first-grown d.first_child-child.ensures (fork-of d u g))
 
   own_first : (f : First) → let o = opened f in let d = chosen o in
-      Wrote (marked (listed (labelled d)) (own-fork d).first) o.write-bracket.last.0 f.write-clade.last.0 o.write-bracket.result f.write-clade.result
-  own_first f = let p = (start (labelled (chosen (opened f)))).pre.1 in wrote-first f p.tree p.grows
+      Wrote (marked (listed (labelled d)) (own-fork d).first) o.write_bracket-first.new.out f.write_clade-comma.new.out o.write_bracket-first.result f.write_clade-comma.result
+  own_first f = let p = f.requires.1 in wrote-first f p.tree p.grows
 
-  length-first : (f : First) → length f.write-clade.last.0 ≡ length (start (labelled (chosen (opened f)))).args.out.now
+  length-first : (f : First) → length f.write_clade-comma.new.out ≡ length f.args.out.now
   length-first f = wrote-length (own_first f) ∙ length-opened (opened f)
 
   room-second : (f : First) → let d = chosen (opened f) in let l = labelled d in
-      f.write-clade.result + (1 + length (marked (listed l) (own-fork d).second) + length (bracket d.before.is-listed.result 41)) ≤ length (start l).args.out.now
-  room-second f = let o = opened f in omega (arith, room_of (chosen o), o.write-bracket.ensures.behind, (own_first f).behind)
+      f.write_clade-comma.result + (1 + length (marked (listed l) (own-fork d).second) + length (bracket d.is_listed-node.result 41)) ≤ length l.args.out.now
+  room-second f = let o = opened f in omega (arith, room_of (chosen o), o.write_bracket-first.ensures.behind, (own_first f).behind)
 
-  slice-write-comma : lts.Need-slice-write-out claims here own.Post
+  slice-write-comma : lts.Need-bounds-out-comma claims here own.Post
   slice-write-comma c = let f = c.before.before in omega (arith, room-second f, length-first f)
 
-  add-comma : lts.Need-overflow-add-write-clade claims here own.Post
+  add-comma : lts.Need-overflow_add-comma claims here own.Post
   add-comma c =
       let f = c.before.before.before in
       omega (arith, room-second f, short (start (labelled (chosen (opened f)))))
 
-  sub-child : lts.Need-overflow-sub-write-clade claims here own.Post
-  sub-child c = let d = chosen (opened c.before.before.before) in omega (arith, (own-fork d).part, d.first-child.ensures)
+  sub-child : lts.Need-overflow_sub-c claims here own.Post
+  sub-child c = let d = chosen (opened c.before.before.before) in omega (arith, (own-fork d).part, d.first_child-child.ensures)
 
-  write-second-requires : lts.Need-write-clade-requires-2 claims here own.Post
+  write-second-requires : lts.Need-write_clade-close-requires claims here own.Post
   write-second-requires c κs =
       let f = c.before.before.before in
       let d = chosen (opened f) in
-      let p = (start (labelled d)).pre in
-      let e = d.first-child.ensures in (
-        omega (arith, (own-fork d).second-less, ap (λ (x : ℕ). size ((start (labelled d)).args.c - x)) e, p.0),
+      let p = d.requires in
+      let e = d.first_child-child.ensures in (
+        omega (arith, (own-fork d).second-less, ap (λ (x : ℕ). size (d.args.c - x)) e, p.0),
         record {
           few = p.1.few;
           tree = (own-fork d).second;
@@ -199,43 +195,43 @@ module _ (t : ℕ) where
 
   -- both children are written
   abbrev Both : Type 0
-  Both = lts.After-write-clade2 claims here own.Post
+  Both = lts.After-write_clade-close claims here own.Post
 
   abbrev first : Both → First
   first b = b.before.before.before.before
 
-  wrote-second : (b : Both) → let f = first b in let d = chosen (opened f) in (u : Topology) (g : GrowsTo (listed (labelled d)) (start (labelled d)).args.c u)
-      → Wrote (marked (listed (labelled d)) (fork-of d u g).second) (set f.write-clade.last.0 f.write-clade.result 44)
-      b.write-clade2.last.0 (f.write-clade.result + 1) b.write-clade2.result
+  wrote-second : (b : Both) → let f = first b in let d = chosen (opened f) in (u : Topology) (g : GrowsTo (listed (labelled d)) d.args.c u)
+      → Wrote (marked (listed (labelled d)) (fork-of d u g).second) (set f.write_clade-comma.new.out f.write_clade-comma.result 44)
+      b.write_clade-close.new.out (f.write_clade-comma.result + 1) b.write_clade-close.result
   wrote-second b u g =
       let d = chosen (opened (first b)) in
-      b.write-clade2.ensures (fork-of d u g).second (second-grown d.first-child.ensures (fork-of d u g))
+      b.write_clade-close.ensures (fork-of d u g).second (second-grown d.first_child-child.ensures (fork-of d u g))
 
   own-second : (b : Both) → let f = first b in let d = chosen (opened f) in
-      Wrote (marked (listed (labelled d)) (own-fork d).second) (set f.write-clade.last.0 f.write-clade.result 44)
-      b.write-clade2.last.0 (f.write-clade.result + 1) b.write-clade2.result
-  own-second b = let p = (start (labelled (chosen (opened (first b))))).pre.1 in wrote-second b p.tree p.grows
+      Wrote (marked (listed (labelled d)) (own-fork d).second) (set f.write_clade-comma.new.out f.write_clade-comma.result 44)
+      b.write_clade-close.new.out (f.write_clade-comma.result + 1) b.write_clade-close.result
+  own-second b = let p = (start (labelled (chosen (opened (first b))))).requires.1 in wrote-second b p.tree p.grows
 
-  length-second : (b : Both) → length b.write-clade2.last.0 ≡ length (start (labelled (chosen (opened (first b))))).args.out.now
+  length-second : (b : Both) → length b.write_clade-close.new.out ≡ length (start (labelled (chosen (opened (first b))))).args.out.now
   length-second b = wrote-length (own-second b) ∙ simp length-set (length-first (first b))
 
-  write-close-requires : lts.Need-write-bracket-requires-2 claims here own.Post
+  write-close-requires : lts.Need-write_bracket-requires claims here own.Post
   write-close-requires c κs = let b = c.before.before.before in omega (arith, room-second (first b), (own-second b).behind, length-second b)
 
-  same-length-2 : lts.Need-same-length-2 claims here own.Post
+  same-length-2 : lts.Need-shape_of-out claims here own.Post
   same-length-2 c =
       let w = c.before.before in
-      wrote-length w.write-bracket2.ensures ∙ length-second w.before.before.before.before
+      wrote-length c.write_bracket.ensures ∙ length-second w.before.before.before.before
 
-  returns-2 : lts.Need-returns-2 claims here own.Post
+  returns-2 : lts.Need-returns claims here own.Post
   returns-2 c =
       let w = c.before.before in
       let b = w.before.before.before.before in
       let o = opened (first b) in
-      λ u g. wrote-fork g (fork-of (chosen o) u g) (chosen o).before.is-listed.ensures o.write-bracket.ensures (wrote-first (first b) u g) (wrote-second b u g) w.write-bracket2.ensures
+      λ u g. wrote-fork g (fork-of (chosen o) u g) o.is_listed-node.ensures o.write_bracket-first.ensures (wrote-first (first b) u g) (wrote-second b u g) c.write_bracket.ensures
 
-pub +write-clade-spec : {M : Type 1} → statement M
-+write-clade-spec =
+pub +write_clade_spec : {M : Type 1} → statement M
++write_clade_spec =
     close μ λ t. lts.spec (claims t) (here t) own.Post
     (labels-requires t)
     (smallest-requires t)

@@ -5,11 +5,11 @@ use native.Mathlib.Omega.{arith}
 use Rattle.majority.proofs.is_above_half.Statement.{statement}
 use Rattle.majority.proofs.is_above_half.Tie as tie
 
-mul-result : tie.Need-overflow-mul-result
+mul-result : tie.Need-overflow_mul-result
 mul-result c = omega arith
 
 returns : tie.Need-returns
 returns c = refl
 
-pub is-above-half-spec : {M : Type 1} → statement M
-is-above-half-spec = tie.close (tie.spec mul-result returns)
+pub is_above_half_spec : {M : Type 1} → statement M
+is_above_half_spec = tie.close (tie.spec mul-result returns)

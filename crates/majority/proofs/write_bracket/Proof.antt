@@ -2,7 +2,7 @@
 -- Assumes nothing.
 use mathlib.Core.Path.{◌≡◌, refl, sym, ap, subst}
 use mathlib.Core.Bool.{Bool, true, false}
-use mathlib.Core.List.{List, []}
+use mathlib.Core.List.{List}
 use Prim.Native.Nat.{ℕ, ◌+◌}
 use native.Mathlib.Omega.{arith}
 use borrow.Author.Rules.{rules}
@@ -19,26 +19,23 @@ wrote-bracket out at byte node e = subst (λ (q : Bool). Wrote (bracket q byte) 
 wrote_none : (out : List ℕ) (at byte : ℕ) (node : Bool) → node ≡ false → Wrote (bracket node byte) out out at at
 wrote_none out at byte node e = subst (λ (q : Bool). Wrote (bracket q byte) out out at at) (sym e) (record { behind = omega arith; cells = refl })
 
-slice-write-out : tie.Need-slice-write-out
+slice-write-out : tie.Need-bounds-out-at
 slice-write-out c =
-    let s = c.before in
-    omega (arith, s.requires, ap (λ (q : Bool). length (bracket q s.args.byte)) c.if1.true)
+    omega (arith, c.requires, ap (λ (q : Bool). length (bracket q c.args.byte)) c.if-node.true)
 
-add-result : tie.Need-overflow-add-result
+add-result : tie.Need-overflow_add-result
 add-result c = search rules
 
-same_length : tie.Need-same-length
+same_length : tie.Need-shape_of-out-then-node
 same_length c = search rules
 
-returns : tie.Need-returns
+returns : tie.Need-returns-then-node
 returns c =
-    let s = c.before in
-    wrote-bracket s.args.out.now s.args.at s.args.byte s.args.node c.if1.true
+    wrote-bracket c.args.out.now c.args.at c.args.byte c.args.node c.if-node.true
 
-returns-2 : tie.Need-returns-2
+returns-2 : tie.Need-returns
 returns-2 c =
-    let s = c.before in
-    wrote_none s.args.out.now s.args.at s.args.byte s.args.node c.if1.false
+    wrote_none c.args.out.now c.args.at c.args.byte c.args.node c.if-node.false
 
-pub write-bracket-spec : {M : Type 1} → statement M
-write-bracket-spec = tie.close (tie.spec slice-write-out add-result same_length returns returns-2)
+pub write_bracket_spec : {M : Type 1} → statement M
+write_bracket_spec = tie.close (tie.spec slice-write-out add-result same_length returns returns-2)

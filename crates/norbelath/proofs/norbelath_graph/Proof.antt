@@ -10,39 +10,38 @@ use Rattle.norbelath.proofs.norbelath_graph.Statement.{statement}
 use Rattle.norbelath.proofs.norbelath_graph.Tie as tie
 
 -- the entry and the lent memory, from where the call was made
-abbrev start : tie.After-graph-call → tie.Start
+abbrev start : tie.After-graph_call → tie.Start
 start d = d.before.before.before.before.before.before.before.before
 
-abbrev memory : tie.After-graph-call → FirstsMemory
-memory d = let a = (start d).args in record { graph = record { pairs = a.pairs.now; counts = a.counts.now }; firsts = a.firsts.now }
+abbrev memory : tie.After-graph_call → FirstsMemory
+memory d = let a = d.args in record { graph = record { pairs = a.pairs.now; counts = a.counts.now }; firsts = a.firsts.now }
 
-graph-call-requires : tie.Need-graph-call-requires
+graph-call-requires : tie.Need-graph_call-requires
 graph-call-requires c κs = search rules
 
-graph-reply-requires : tie.Need-graph-reply-requires
+graph-reply-requires : tie.Need-graph_reply-requires
 graph-reply-requires c κs =
     let called = c.before.before.before.before.before.before in
-    graph-numbered merged (start called).args.text.now (memory called) called.graph-call.ensures
+    graph-numbered merged c.args.text.now (memory called) c.graph_call.ensures
 
-hand-back-requires : tie.Need-hand-back-requires
+hand-back-requires : tie.Need-hand_back-requires
 hand-back-requires c κs = search rules
 
-same_length : tie.Need-same-length
+same_length : tie.Need-shape_of-pairs
 same_length c = search rules
 
-same-length-2 : tie.Need-same-length-2
+same-length-2 : tie.Need-shape_of-counts
 same-length-2 c = search rules
 
-same-length-3 : tie.Need-same-length-3
+same-length-3 : tie.Need-shape_of-firsts
 same-length-3 c = search rules
 
 returns : tie.Need-returns
 returns c =
-    let d = c.before.before.before in
-    rw (handed-back graph_value c.hand-back.ensures d.graph-reply.ensures) d.before.before.before.before.before.before.before.graph-call.ensures
+    rw (handed-back graph_value c.hand_back.ensures c.graph_reply.ensures) c.graph_call.ensures
 
-pub norbelath-graph-spec : {M : Type 1} → statement M
-norbelath-graph-spec =
+pub norbelath_graph_spec : {M : Type 1} → statement M
+norbelath_graph_spec =
     tie.close
     (tie.spec
     graph-call-requires

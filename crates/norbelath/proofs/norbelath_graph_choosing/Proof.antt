@@ -10,46 +10,46 @@ use Rattle.norbelath.proofs.norbelath_graph_choosing.Statement.{statement}
 use Rattle.norbelath.proofs.norbelath_graph_choosing.Tie as tie
 
 -- the choice, the entry and the lent memory, from where the call was made
-abbrev copies : tie.After-graph-call-choosing → tie.After-copies-of
+abbrev copies : tie.After-graph_call_choosing → tie.After-copies_of-copies
 copies d = d.before.before.before.before
 
-abbrev start : tie.After-graph-call-choosing → tie.Start
+abbrev start : tie.After-graph_call_choosing → tie.Start
 start d = (copies d).before.before.before.before.before
 
-abbrev memory : tie.After-graph-call-choosing → FirstsMemory
-memory d = let a = (start d).args in record { graph = record { pairs = a.pairs.now; counts = a.counts.now }; firsts = a.firsts.now }
+abbrev memory : tie.After-graph_call_choosing → FirstsMemory
+memory d = let a = d.args in record { graph = record { pairs = a.pairs.now; counts = a.counts.now }; firsts = a.firsts.now }
 
-copies-of-requires : tie.Need-copies-of-requires
+copies-of-requires : tie.Need-copies_of-copies-requires
 copies-of-requires c κs = search rules
 
-graph-call-choosing-requires : tie.Need-graph-call-choosing-requires
+graph-call-choosing-requires : tie.Need-graph_call_choosing-requires
 graph-call-choosing-requires c κs = search rules
 
-graph-reply-requires : tie.Need-graph-reply-requires
+graph-reply-requires : tie.Need-graph_reply-requires
 graph-reply-requires c κs =
     let called = c.before.before.before.before.before.before in
-    graph-numbered (choice_of (copies called).Copies-of.result) (start called).args.text.now (memory called) called.graph-call-choosing.ensures
+    graph-numbered (choice_of c.copies_of-copies.result) c.args.text.now (memory called) c.graph_call_choosing.ensures
 
-hand-back-requires : tie.Need-hand-back-requires
+hand-back-requires : tie.Need-hand_back-requires
 hand-back-requires c κs = search rules
 
-same_length : tie.Need-same-length
+same_length : tie.Need-shape_of-pairs
 same_length c = search rules
 
-same-length-2 : tie.Need-same-length-2
+same-length-2 : tie.Need-shape_of-counts
 same-length-2 c = search rules
 
-same-length-3 : tie.Need-same-length-3
+same-length-3 : tie.Need-shape_of-firsts
 same-length-3 c = search rules
 
 returns : tie.Need-returns
 returns c =
     let d = c.before.before.before in
     let called = d.before.before.before.before.before.before.before in
-    rw (handed-back graph_value c.hand-back.ensures d.graph-reply.ensures, ← (copies called).Copies-of.ensures) called.graph-call-choosing.ensures
+    rw (handed-back graph_value c.hand_back.ensures c.graph_reply.ensures, ← c.copies_of-copies.ensures) c.graph_call_choosing.ensures
 
-pub norbelath-graph-choosing-spec : {M : Type 1} → statement M
-norbelath-graph-choosing-spec =
+pub norbelath_graph_choosing_spec : {M : Type 1} → statement M
+norbelath_graph_choosing_spec =
     tie.close
     (tie.spec
     copies-of-requires

@@ -7,20 +7,19 @@ use borrow.Author.Rules.{rules}
 use Rattle.norbelath.proofs.norbelath_pair.Statement.{statement}
 use Rattle.norbelath.proofs.norbelath_pair.Tie as tie
 
-pair-call-requires : tie.Need-pair-call-requires
+pair-call-requires : tie.Need-pair_call-requires
 pair-call-requires c κs = search rules
 
-pair-reply-requires : tie.Need-pair-reply-requires
-pair-reply-requires c κs = pair-numbered c.pair-call.ensures
+pair-reply-requires : tie.Need-pair_reply-requires
+pair-reply-requires c κs = pair-numbered c.pair_call.ensures
 
-hand-back-requires : tie.Need-hand-back-requires
+hand-back-requires : tie.Need-hand_back-requires
 hand-back-requires c κs = search rules
 
 returns : tie.Need-returns
 returns c =
-    let d = c.before.before.before in
-    rw (handed-back pair_value c.hand-back.ensures d.pair-reply.ensures) d.before.pair-call.ensures
+    rw (handed-back pair_value c.hand_back.ensures c.pair_reply.ensures) c.pair_call.ensures
 
-pub norbelath-pair-spec : {M : Type 1} → statement M
-norbelath-pair-spec =
+pub norbelath_pair_spec : {M : Type 1} → statement M
+norbelath_pair_spec =
     tie.close (tie.spec pair-call-requires pair-reply-requires hand-back-requires returns)

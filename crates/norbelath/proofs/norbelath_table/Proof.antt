@@ -7,31 +7,29 @@ use borrow.Author.Rules.{rules}
 use Rattle.norbelath.proofs.norbelath_table.Statement.{statement}
 use Rattle.norbelath.proofs.norbelath_table.Tie as tie
 
-table-call-requires : tie.Need-table-call-requires
+table-call-requires : tie.Need-table_call-requires
 table-call-requires c κs = search rules
 
-table-reply-requires : tie.Need-table-reply-requires
+table-reply-requires : tie.Need-table_reply-requires
 table-reply-requires c κs =
-    let d = c.before.before.before.before in
-    let a = d.before.before.before.before.before.before.args in
-    numbered-as d.table-call.ensures (table-numbered a.text.now (record { texts = a.texts.now; ends = a.ends.now }))
+    let a = c.args in
+    numbered-as c.table_call.ensures (table-numbered a.text.now (record { texts = a.texts.now; ends = a.ends.now }))
 
-hand-back-requires : tie.Need-hand-back-requires
+hand-back-requires : tie.Need-hand_back-requires
 hand-back-requires c κs = search rules
 
-same_length : tie.Need-same-length
+same_length : tie.Need-shape_of-texts
 same_length c = search rules
 
-same-length-2 : tie.Need-same-length-2
+same-length-2 : tie.Need-shape_of-ends
 same-length-2 c = search rules
 
 returns : tie.Need-returns
 returns c =
-    let d = c.before.before.before in
-    answered-as (handed-back table_value c.hand-back.ensures d.table-reply.ensures) d.before.before.before.before.before.table-call.ensures
+    answered-as (handed-back table_value c.hand_back.ensures c.table_reply.ensures) c.table_call.ensures
 
-pub norbelath-table-spec : {M : Type 1} → statement M
-norbelath-table-spec =
+pub norbelath_table_spec : {M : Type 1} → statement M
+norbelath_table_spec =
     tie.close
     (tie.spec
     table-call-requires

@@ -4,11 +4,11 @@ use borrow.Author.Tests.{eq-eqb, ne_eqb}
 use Rattle.numbering.proofs.renumbered.Statement.{statement}
 use Rattle.numbering.proofs.renumbered.Tie as tie
 
-returns : tie.Need-returns
-returns c = rw (eq-eqb c.before.args.x c.before.args.from c.if1.true)
+returns : tie.Need-returns-then-x-from
+returns c = rw (eq-eqb c.args.x c.args.from c.if-x-from.true)
 
-returns-2 : tie.Need-returns-2
-returns-2 c = rw (ne_eqb c.before.args.x c.before.args.from c.if1.false)
+returns-2 : tie.Need-returns-else-x-from
+returns-2 c = rw (ne_eqb c.args.x c.args.from c.if-x-from.false)
 
-pub renumbered-spec : {M : Type 1} → statement M
-renumbered-spec = tie.close (tie.spec returns returns-2)
+pub renumbered_spec : {M : Type 1} → statement M
+renumbered_spec = tie.close (tie.spec returns returns-2)

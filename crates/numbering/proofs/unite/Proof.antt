@@ -6,49 +6,44 @@ use Rattle.numbering.proofs.Uniting.{unite-less, unite-more, unite-same}
 use Rattle.numbering.proofs.unite.Statement.{statement}
 use Rattle.numbering.proofs.unite.Tie as tie
 
-mul-a : tie.Need-overflow-mul-a
+mul-a : tie.Need-offset_bounds-numbers-i
 mul-a c = search rules
 
-slice-read-a : tie.Need-slice-read-a
+slice-read-a : tie.Need-bounds-numbers-i
 slice-read-a c = search rules
 
-mul-b : tie.Need-overflow-mul-b
+mul-b : tie.Need-offset_bounds-numbers-j
 mul-b c = search rules
 
-slice-read-b : tie.Need-slice-read-b
+slice-read-b : tie.Need-bounds-numbers-j
 slice-read-b c = search rules
 
 renumber-requires : tie.Need-renumber-requires
 renumber-requires c κs = search rules
 
-renumber-requires-2 : tie.Need-renumber-requires-2
+renumber-requires-2 : tie.Need-renumber-requires-then-b-a
 renumber-requires-2 c κs = search rules
 
-same_length : tie.Need-same-length
+same_length : tie.Need-shape_of-numbers-then-a-b
 same_length c = search rules
 
-returns : tie.Need-returns
+returns : tie.Need-returns-then-a-b
 returns c =
-    let t = c.before.before.before.before in
-    let s = t.before.before.before.before in
-    rw (unite-less s.args.numbers.now s.args.n s.args.i s.args.j s.requires.1 s.requires.2 t.if1.true) c.before.before.renumber.ensures
+    rw (unite-less c.args.numbers.now c.args.n c.args.i c.args.j c.requires.1 c.requires.2 c.if-a-b.true) c.renumber.ensures
 
-same-length-2 : tie.Need-same-length-2
+same-length-2 : tie.Need-shape_of-numbers-then-b-a
 same-length-2 c = search rules
 
-returns-2 : tie.Need-returns-2
+returns-2 : tie.Need-returns-then-b-a
 returns-2 c =
-    let t = c.before.before.before.before in
-    let s = t.before.before.before.before.before in
-    rw (unite-more s.args.numbers.now s.args.n s.args.i s.args.j s.requires.1 s.requires.2 t.if2.true) c.before.before.renumber2.ensures
+    rw (unite-more c.args.numbers.now c.args.n c.args.i c.args.j c.requires.1 c.requires.2 c.if-b-a.true) c.renumber-then-b-a.ensures
 
-returns-3 : tie.Need-returns-3
+returns-3 : tie.Need-returns-else-b-a
 returns-3 c =
-    let s = c.before.before.before.before.before in
-    unite-same s.args.numbers.now s.args.n s.args.i s.args.j s.requires.1 s.requires.2 (omega (arith, c.if2.false, c.before.if1.false)) s.requires.0
+    unite-same c.args.numbers.now c.args.n c.args.i c.args.j c.requires.1 c.requires.2 (omega (arith, c.if-b-a.false, c.if-a-b.false)) c.requires.0
 
-pub unite-spec : {M : Type 1} → statement M
-unite-spec =
+pub unite_spec : {M : Type 1} → statement M
+unite_spec =
     tie.close
     (tie.spec
     mul-a

@@ -34,69 +34,68 @@ module _ (t : ℕ) where
 
   -- the node's own cells
   abbrev Known : Type 0
-  Known = lts.After-shared-slice-known claims here own.Post
+  Known = lts.After-shared_slice_known-1 claims here own.Post
 
   abbrev start : Known → lts.Start claims here own.Post
   start c = c.before.before.before
 
-  column-in : (c : Known) → (start c).args.k < length (start c).args.columns.now
+  column-in : (c : Known) → c.args.k < length c.args.columns.now
   column-in c =
-      let p = (start c).requires.1 in
+      let p = c.requires.1 in
       omega (arith, some-nodes p.tree, p.columns_room)
 
-  row_in : (c : Known) → (start c).args.k < length (start c).args.rows.now
+  row_in : (c : Known) → c.args.k < length c.args.rows.now
   row_in c =
-      let p = (start c).requires.1 in
+      let p = c.requires.1 in
       omega (arith, some-nodes p.tree, p.rows_room)
 
-  mul-columns : lts.Need-overflow-mul-columns claims here own.Post
+  mul-columns : lts.Need-offset_bounds-columns-k claims here own.Post
   mul-columns c = search (rules, column-in c)
 
-  slice-write-columns : lts.Need-slice-write-columns claims here own.Post
+  slice-write-columns : lts.Need-bounds-columns-k claims here own.Post
   slice-write-columns c = column-in c
 
-  shared-slice-read-b : lts.Need-shared-slice-read-b claims here own.Post
-  shared-slice-read-b c = within (start c.before).pre.1.holds
+  shared-slice-read-b : lts.Need-bounds-n-k claims here own.Post
+  shared-slice-read-b c = within c.requires.1.holds
 
   -- the node is a leaf
-  int-to-float-tip : lts.Need-int-to-float-tip claims here own.Post
+  int-to-float-tip : lts.Need-int_to_float-tip claims here own.Post
   int-to-float-tip c = search rules
 
-  mul-rows : lts.Need-overflow-mul-rows claims here own.Post
+  mul-rows : lts.Need-offset_bounds-rows-k claims here own.Post
   mul-rows c = search (rules, row_in c.before.before.before)
 
-  slice-write-rows : lts.Need-slice-write-rows claims here own.Post
+  slice-write-rows : lts.Need-bounds-rows-k claims here own.Post
   slice-write-rows c = row_in c.before.before.before
 
-  int-to-float-column : lts.Need-int-to-float-t22 claims here own.Post
+  int-to-float-column : lts.Need-int_to_float-result claims here own.Post
   int-to-float-column c = search rules
 
-  same_length : lts.Need-same-length claims here own.Post
+  same_length : lts.Need-shape_of-rows-then-b-le-FORK claims here own.Post
   same_length c = search rules
 
-  same-length-2 : lts.Need-same-length-2 claims here own.Post
+  same-length-2 : lts.Need-shape_of-columns-then-b-le-FORK claims here own.Post
   same-length-2 c = search rules
 
-  returns : lts.Need-returns claims here own.Post
+  returns : lts.Need-returns-then-b-le-FORK claims here own.Post
   returns c =
-      let l = c.before.before in
-      let p = (start l.before.before).pre.1 in
-      placed-leaf p.holds l.if1.true p.before
+      let p = c.requires.1 in
+      placed-leaf p.holds c.if-b-le-FORK.true p.before
 
   -- it is a fork, and there is room for both its children
   abbrev Fork : Type 0
-  Fork = lts.Else1 claims here own.Post
+  Fork = lts.Else-b-le-FORK claims here own.Post
 
   abbrev begin : Fork → lts.Start claims here own.Post
   begin c = start c.before.before
 
-  fork-of : (c : Fork) → ForkAt (begin c).args.n.now (begin c).args.k (begin c).requires.1.tree
-  fork-of c = forked (begin c).requires.1.holds c.if1.false
+  fork-of : (c : Fork) → ForkAt c.args.n.now c.args.k c.requires.1.tree
+  fork-of c = forked c.requires.1.holds c.if-b-le-FORK.false
 
-  fork-leaves : (c : Fork) → leaves (begin c).requires.1.tree ≡ leaves (fork-of c).first + leaves (fork-of c).second
+  fork-leaves : (c : Fork) → leaves c.requires.1.tree ≡ leaves (fork-of c).first + leaves (fork-of c).second
   fork-leaves c = ap leaves (fork-of c).is
 
-  add-first : lts.Need-overflow-add-first claims here own.Post
+  add-first : lts.Need-overflow_add-first claims here own.Post
   add-first c = omega (arith, within (fork-of c).holds-first)
 
   width-requires : lts.Need-width-requires claims here own.Post
@@ -114,7 +113,7 @@ module _ (t : ℕ) where
   second-of : (w : Wide) → let s = begin w.before in Holds s.args.n.now (s.args.k + 1 + w.width.result) (fork-of w.before).second
   second-of w = second_at (fork-of w.before) w.width.result (width_is w)
 
-  add-second : lts.Need-overflow-add-second claims here own.Post
+  add-second : lts.Need-overflow_add-second claims here own.Post
   add-second c = omega (arith, within (second-of c))
 
   leaves-requires : lts.Need-leaves-requires claims here own.Post
@@ -128,25 +127,24 @@ module _ (t : ℕ) where
       let f = fork-of o.before.before in
       o.leaves.ensures f.first f.holds-first
 
-  cast-middle : lts.Need-overflow-cast-middle claims here own.Post
+  cast-middle : lts.Need-overflow_cast-middle claims here own.Post
   cast-middle c = search rules
 
-  add-middle : lts.Need-overflow-add-middle claims here own.Post
+  add-middle : lts.Need-overflow_add-middle claims here own.Post
   add-middle c =
       let f = c.before.before in
-      omega (arith, (begin f).requires.1.before, fork-leaves f, leaves-is c)
+      omega (arith, c.requires.1.before, fork-leaves f, leaves-is c)
 
-  add-above : lts.Need-overflow-add-place-node claims here own.Post
+  add-above : lts.Need-overflow_add-above claims here own.Post
   add-above c =
-      let f = c.before.before.before.before in
-      omega (arith, (begin f).requires.1.above, some-leaves (begin f).requires.1.tree)
+      omega (arith, c.requires.1.above, some-leaves c.requires.1.tree)
 
-  place-first-requires : lts.Need-place-node-requires claims here own.Post
+  place-first-requires : lts.Need-place_node-x-requires claims here own.Post
   place-first-requires c κs =
       let g = c.before.before.before.before in
       let f = fork-of g in
-      let p = (begin g).requires.1 in (
-        omega (arith, first-falls f, (begin g).requires.0),
+      let p = c.requires.1 in (
+        omega (arith, first-falls f, c.requires.0),
         record {
           tree = f.first;
           holds = f.holds-first;
@@ -159,7 +157,7 @@ module _ (t : ℕ) where
 
   -- the first child is placed
   abbrev First : Type 0
-  First = lts.After-place-node claims here own.Post
+  First = lts.After-place_node-x claims here own.Post
 
   abbrev counted : First → Counted
   counted o = o.before.before.before
@@ -172,31 +170,31 @@ module _ (t : ℕ) where
 
   placed_first : (o : First)
       → let s = begin (fork o) in
-      Placed (fork-of (fork o)).first (s.args.k + 1) (s.args.above + 1) s.args.before s.args.rows.now o.place-node.last.0
-      (set s.args.columns.now s.args.k s.args.above) o.place-node.last.1.0 o.place-node.result.column o.place-node.result.row
+      Placed (fork-of (fork o)).first (s.args.k + 1) (s.args.above + 1) s.args.before s.args.rows.now o.place_node-x.new.rows
+      (set s.args.columns.now s.args.k s.args.above) o.place_node-x.new.columns o.place_node-x.result.column o.place_node-x.result.row
   placed_first o =
       let f = fork-of (fork o) in
-      o.place-node.ensures f.first f.holds-first
+      o.place_node-x.ensures f.first f.holds-first
 
-  rows-first : (o : First) → length o.place-node.last.0 ≡ length (begin (fork o)).args.rows.now
+  rows-first : (o : First) → length o.place_node-x.new.rows ≡ length o.args.rows.now
   rows-first o = rows-length (placed_first o)
 
-  columns-first : (o : First) → length o.place-node.last.1.0 ≡ length (begin (fork o)).args.columns.now
+  columns-first : (o : First) → length o.place_node-x.new.columns ≡ length o.args.columns.now
   columns-first o = columns-length (placed_first o) ∙ simp length-set
 
-  add-above-2 : lts.Need-overflow-add-place-node-2 claims here own.Post
+  add-above-2 : lts.Need-overflow_add-above-2 claims here own.Post
   add-above-2 c =
-      let p = (begin (fork c.before.before.before.before.before.before)).pre.1 in
+      let p = c.requires.1 in
       omega (arith, p.above, some-leaves p.tree)
 
-  place-second-requires : lts.Need-place-node-requires-2 claims here own.Post
+  place-second-requires : lts.Need-place_node-y-requires claims here own.Post
   place-second-requires c κs =
       let o = c.before.before.before.before.before.before in
       let w = wide o in
       let g = fork o in
       let f = fork-of g in
-      let p = (begin g).pre.1 in (
-        omega (arith, second-falls f w.width.result (width_is w), (begin g).pre.0),
+      let p = g.requires.1 in (
+        omega (arith, second-falls f w.width.result (width_is w), g.requires.0),
         record {
           tree = f.second;
           holds = second-of w;
@@ -209,7 +207,7 @@ module _ (t : ℕ) where
 
   -- both children are placed
   abbrev Both : Type 0
-  Both = lts.After-place-node2 claims here own.Post
+  Both = lts.After-place_node-y claims here own.Post
 
   abbrev first : Both → First
   first o = o.before.before.before.before.before.before.before
@@ -217,52 +215,52 @@ module _ (t : ℕ) where
   placed-second : (o : Both)
       → let p = first o in
       let s = begin (fork p) in
-      Placed (fork-of (fork p)).second (s.args.k + 1 + (wide p).width.result) (s.args.above + 1) (s.args.before + (counted p).leaves.result)
-      p.place-node.last.0 o.place-node2.last.0 p.place-node.last.1.0 o.place-node2.last.1.0 o.place-node2.result.column o.place-node2.result.row
-  placed-second o = o.place-node2.ensures (fork-of (fork (first o))).second (second-of (wide (first o)))
+      Placed (fork-of (fork p)).second (s.args.k + 1 + p.width.result) (s.args.above + 1) (s.args.before + p.leaves.result)
+      p.place_node-x.new.rows o.place_node-y.new.rows p.place_node-x.new.columns o.place_node-y.new.columns o.place_node-y.result.column o.place_node-y.result.row
+  placed-second o = o.place_node-y.ensures (fork-of (fork (first o))).second (second-of (wide (first o)))
 
-  rows_both : (o : Both) → length o.place-node2.last.0 ≡ length (begin (fork (first o))).args.rows.now
+  rows_both : (o : Both) → length o.place_node-y.new.rows ≡ length o.args.rows.now
   rows_both o = rows-length (placed-second o) ∙ rows-first (first o)
 
-  between-requires : lts.Need-between-requires claims here own.Post
+  between-requires : lts.Need-between-row-requires claims here own.Post
   between-requires c κs = search rules
 
   abbrev Halved : Type 0
-  Halved = lts.After-between claims here own.Post
+  Halved = lts.After-between-row claims here own.Post
 
   abbrev both : Halved → Both
   both h = h.before.before.before.before.before
 
-  row-in-2 : (h : Halved) → (begin (fork (first (both h)))).args.k < length (both h).place-node2.last.0
+  row-in-2 : (h : Halved) → h.args.k < length h.place_node-y.new.rows
   row-in-2 h =
-      let p = (begin (fork (first (both h)))).pre.1 in
+      let p = h.requires.1 in
       omega (arith, some-nodes p.tree, p.rows_room, rows_both (both h))
 
-  mul-rows-2 : lts.Need-overflow-mul-rows-2 claims here own.Post
+  mul-rows-2 : lts.Need-offset_bounds-rows-k-2 claims here own.Post
   mul-rows-2 c = search (rules, row-in-2 c)
 
-  slice-write-rows-2 : lts.Need-slice-write-rows-2 claims here own.Post
+  slice-write-rows-2 : lts.Need-bounds-rows-k-2 claims here own.Post
   slice-write-rows-2 c = row-in-2 c
 
-  int-to-float-column-2 : lts.Need-int-to-float-t33 claims here own.Post
+  int-to-float-column-2 : lts.Need-int_to_float-result-2 claims here own.Post
   int-to-float-column-2 c = search rules
 
-  same-length-3 : lts.Need-same-length-3 claims here own.Post
+  same-length-3 : lts.Need-shape_of-rows claims here own.Post
   same-length-3 c = simp length-set (rows_both (both c.before))
 
-  same-length-4 : lts.Need-same-length-4 claims here own.Post
+  same-length-4 : lts.Need-shape_of-columns claims here own.Post
   same-length-4 c = columns-length (placed-second (both c.before)) ∙ columns-first (first (both c.before))
 
-  returns-2 : lts.Need-returns-2 claims here own.Post
+  returns-2 : lts.Need-returns claims here own.Post
   returns-2 c =
       let h = c.before in
       let o = both h in
       let p = first o in
-      let middle : (begin (fork p)).args.before + (counted p).leaves.result ≡ (begin (fork p)).args.before + leaves (fork-of (fork p)).first = omega (arith, leaves-is (counted p)) in
-      placed-fork (fork-of (fork p)) (width_is (wide p)) middle (begin (fork p)).pre.1.before (placed_first p) (placed-second o) h.between.ensures
+      let middle : p.args.before + p.leaves.result ≡ p.args.before + leaves (fork-of (fork p)).first = omega (arith, leaves-is (counted p)) in
+      placed-fork (fork-of (fork p)) (width_is (wide p)) middle p.requires.1.before (placed_first p) (placed-second o) c.between-row.ensures
 
-pub +place-node-spec : {M : Type 1} → statement M
-+place-node-spec = close μ λ t. lts.spec (claims t) (here t) own.Post
+pub +place_node_spec : {M : Type 1} → statement M
++place_node_spec = close μ λ t. lts.spec (claims t) (here t) own.Post
     (mul-columns t)
     (slice-write-columns t)
     (shared-slice-read-b t)

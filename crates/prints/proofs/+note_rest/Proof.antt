@@ -30,41 +30,41 @@ module _ (t : ℕ) where
   abbrev claims : lts.Claims
   claims = (width-reads.Asked, width-reads.Learnt, pass-reads.Asked, pass-reads.Learnt, and 4 kinds.ps (falls 4 kinds.ps ◌<◌ μ t) own.Pre, own.Post)
 
-  shared-slice-read-if1 : lts.Need-shared-slice-read-if1 claims here own.Post
-  shared-slice-read-if1 c = within c.before.before.requires.1.holds
+  shared-slice-read-if1 : lts.Need-bounds-n-k claims here own.Post
+  shared-slice-read-if1 c = within c.requires.1.holds
 
-  returns : lts.Need-returns claims here own.Post
-  returns c = leaf-rest c.before.before.before.args.rest.now c.if1.true
+  returns : lts.Need-returns-then-n-k-le-FORK claims here own.Post
+  returns c = leaf-rest c.args.rest.now c.if-n-k-le-FORK.true
 
   -- ---- the node is a fork
   abbrev Fork : Type 0
-  Fork = lts.Else1 claims here own.Post
+  Fork = lts.Else-n-k-le-FORK claims here own.Post
 
   abbrev start : Fork → lts.Start claims here own.Post
   start c = c.before.before.before
 
   abbrev xs : Fork → List ℕ
-  xs c = (start c).args.n.now
+  xs c = c.args.n.now
 
   abbrev ms : Fork → List ℕ
-  ms c = (start c).args.m.now
+  ms c = c.args.m.now
 
   abbrev fs : Fork → List ℕ
-  fs c = (start c).args.f.now
+  fs c = c.args.f.now
 
   abbrev at : Fork → ℕ
-  at c = (start c).args.k
+  at c = c.args.k
 
-  abbrev asked : (c : Fork) → RestRoom (xs c) (ms c) (fs c) (start c).args.rest.now (at c)
-  asked c = (start c).requires.1
+  abbrev asked : (c : Fork) → RestRoom (xs c) (ms c) (fs c) c.args.rest.now (at c)
+  asked c = c.requires.1
 
   fork-of : (c : Fork) → ForkAt (xs c) (at c) (asked c).tree
-  fork-of c = forked (asked c).holds c.if1.false
+  fork-of c = forked (asked c).holds c.if-n-k-le-FORK.false
 
   few : (c : Fork) → at c + 1 + nodes (fork-of c).first + nodes (fork-of c).second ≤ max_nodes
   few c = omega (arith, fork-nodes (fork-of c), (asked c).room)
 
-  add-first : lts.Need-overflow-add-first claims here own.Post
+  add-first : lts.Need-overflow_add-first claims here own.Post
   add-first c = omega (arith, few c)
 
   width-requires : lts.Need-width-requires claims here own.Post
@@ -83,7 +83,7 @@ module _ (t : ℕ) where
   holds-second : (w : Wide) → Holds (xs w.before) (second w) (fork-of w.before).second
   holds-second w = second_at (fork-of w.before) w.width.result (width_is w)
 
-  add-second : lts.Need-overflow-add-second claims here own.Post
+  add-second : lts.Need-overflow_add-second claims here own.Post
   add-second c = omega (arith, few c.before, width_is c)
 
   width-requires-2 : lts.Need-width-requires-2 claims here own.Post
@@ -91,73 +91,73 @@ module _ (t : ℕ) where
 
   -- and that of the second
   abbrev Both : Type 0
-  Both = lts.After-width2 claims here own.Post
+  Both = lts.After-width-2 claims here own.Post
 
   abbrev fork : Both → Fork
   fork b = b.before.before
 
-  width2-is : (b : Both) → b.width2.result ≡ nodes (fork-of (fork b)).second
-  width2-is b = b.width2.ensures (fork-of (fork b)).second (holds-second b.before)
+  width2-is : (b : Both) → b.width-2.result ≡ nodes (fork-of (fork b)).second
+  width2-is b = b.width-2.ensures (fork-of (fork b)).second (holds-second b.before)
 
-  abbrev wide : (b : Both) → let c = fork b in RestFork (xs c) (ms c) (fs c) (start c).args.rest.now (at c) b.before.width.result b.width2.result
+  abbrev wide : (b : Both) → let c = fork b in RestFork (xs c) (ms c) (fs c) c.args.rest.now (at c) b.width.result b.width-2.result
   wide b = record { asked = asked (fork b); fork = fork-of (fork b); first_width = width_is b.before; second_width = width2-is b }
 
   ends : (b : Both) → second b.before < max_nodes
   ends b = omega (arith, few (fork b), width_is b.before, some-nodes (fork-of (fork b)).second)
 
-  add-end : lts.Need-overflow-add-end claims here own.Post
+  add-end : lts.Need-overflow_add-end claims here own.Post
   add-end c = omega (arith, few (fork c), width_is c.before, width2-is c)
 
-  mul-whole : lts.Need-overflow-mul-whole claims here own.Post
+  mul-whole : lts.Need-offset_bounds-m-k claims here own.Post
   mul-whole c = omega (arith, ends c)
 
-  element-copy-out-whole : lts.Need-element-copy-out-whole claims here own.Post
-  element-copy-out-whole c = omega (arith, ends c)
+  element-copy-out-whole : lts.Need-bounds-m-k claims here own.Post
+  element-copy-out-whole c = omega (arith, ends c.before)
 
-  mul-pass : lts.Need-overflow-mul-pass claims here own.Post
-  mul-pass c = omega (arith, ends c.before.before)
+  mul-pass : lts.Need-offset_bounds-f-second claims here own.Post
+  mul-pass c = omega (arith, ends c.before.before.before)
 
-  element-copy-out-pass : lts.Need-element-copy-out-pass claims here own.Post
-  element-copy-out-pass c = omega (arith, ends c.before.before)
+  element-copy-out-pass : lts.Need-bounds-f-second claims here own.Post
+  element-copy-out-pass c = omega (arith, ends c.before.before.before.before)
 
   pass-requires : lts.Need-pass-requires claims here own.Post
-  pass-requires c κs = pass-first (wide c.before.before.before)
+  pass-requires c κs = pass-first (wide c.before.before.before.before.before)
 
   -- ---- the first child's nodes have their share
   abbrev Passed1 : Type 0
   Passed1 = lts.After-pass claims here own.Post
 
   abbrev both : Passed1 → Both
-  both q = q.before.before.before.before
+  both q = q.before.before.before.before.before.before
 
-  mul-pass-2 : lts.Need-overflow-mul-pass-2 claims here own.Post
+  mul-pass-2 : lts.Need-offset_bounds-f-first claims here own.Post
   mul-pass-2 c = omega (arith, ends (both c.before))
 
-  element-copy-out-pass-2 : lts.Need-element-copy-out-pass-2 claims here own.Post
+  element-copy-out-pass-2 : lts.Need-bounds-f-first claims here own.Post
   element-copy-out-pass-2 c = omega (arith, ends (both c.before))
 
   pass-requires-2 : lts.Need-pass-requires-2 claims here own.Post
   pass-requires-2 c κs =
       let q = c.before.before in
-      pass-second (wide (both q)) q.pass.ensures
+      pass-second (wide (both q)) c.pass.ensures
 
   -- ---- and the second child's
   abbrev Passed2 : Type 0
-  Passed2 = lts.After-pass2 claims here own.Post
+  Passed2 = lts.After-pass-2 claims here own.Post
 
   abbrev passed1 : Passed2 → Passed1
   passed1 q = q.before.before.before
 
-  note-first-requires : lts.Need-note-rest-requires claims here own.Post
+  note-first-requires : lts.Need-note_rest-requires claims here own.Post
   note-first-requires c κs =
       let q = c.before in
       let p = passed1 q in
       let b = both p in
-      (omega (arith, first-falls (fork-of (fork b))), room-first (wide b) p.pass.ensures q.pass2.ensures)
+      (omega (arith, first-falls (fork-of (fork b))), room-first (wide b) p.pass.ensures c.pass-2.ensures)
 
   -- ---- the first child is walked over
   abbrev First : Type 0
-  First = lts.After-note-rest claims here own.Post
+  First = lts.After-note_rest claims here own.Post
 
   abbrev passed2 : First → Passed2
   passed2 o = o.before.before
@@ -165,28 +165,28 @@ module _ (t : ℕ) where
   abbrev around : First → Both
   around o = both (passed1 (passed2 o))
 
-  noted-first : (o : First) → let b = around o in RestNoted (fork-of (fork b)).first (at (fork b) + 1) (passed2 o).pass2.last.0 o.note-rest.last.0
-  noted-first o = let g = fork-of (fork (around o)) in o.note-rest.ensures g.first g.holds-first
+  noted-first : (o : First) → let b = around o in RestNoted (fork-of (fork b)).first (at (fork b) + 1) o.pass-2.new.rest o.note_rest.new.rest
+  noted-first o = let g = fork-of (fork (around o)) in o.note_rest.ensures g.first g.holds-first
 
-  note-second-requires : lts.Need-note-rest-requires-2 claims here own.Post
+  note-second-requires : lts.Need-note_rest-requires-2 claims here own.Post
   note-second-requires c κs =
       let o = c.before in
       let q = passed2 o in
       let p = passed1 q in
       let b = both p in
-      let lower = second-falls (fork-of (fork b)) b.before.width.result (width_is b.before) in
-      (omega (arith, (start (fork b)).pre.0), room-second (wide b) p.pass.ensures q.pass2.ensures (noted-first o))
+      let lower = second-falls (fork-of (fork b)) b.width.result (width_is b.before) in
+      (omega (arith, b.requires.0), room-second (wide b) p.pass.ensures q.pass-2.ensures (noted-first o))
 
-  returns-2 : lts.Need-returns-2 claims here own.Post
+  returns-2 : lts.Need-returns claims here own.Post
   returns-2 c =
       let o = c.before.before in
       let q = passed2 o in
       let p = passed1 q in
       let b = both p in
-      fork-rest (wide b) p.pass.ensures q.pass2.ensures (noted-first o) (c.note-rest2.ensures (fork-of (fork b)).second (holds-second b.before))
+      fork-rest (wide b) p.pass.ensures q.pass-2.ensures (noted-first o) (c.note_rest-2.ensures (fork-of (fork b)).second (holds-second b.before))
 
-pub +note-rest-spec : {M : Type 1} → statement M
-+note-rest-spec = close μ λ t. lts.spec (claims t) (here t) own.Post
+pub +note_rest_spec : {M : Type 1} → statement M
++note_rest_spec = close μ λ t. lts.spec (claims t) (here t) own.Post
     (shared-slice-read-if1 t)
     (returns t)
     (add-first t)

@@ -6,15 +6,15 @@ use Rattle.prints.specs.Print.{folded}
 use Rattle.prints.proofs.folded.Statement.{statement}
 use Rattle.prints.proofs.folded.Tie as tie
 
-cast-result : tie.Need-overflow-cast-result
+cast-result : tie.Need-overflow_cast-result
 cast-result c = search rules
 
-add-result : tie.Need-overflow-add-result
+add-result : tie.Need-overflow_add-result
 add-result c = search rules
 
 returns : tie.Need-returns
 unfolding folded
 returns c = refl
 
-pub folded-spec : {M : Type 1} → statement M
-folded-spec = tie.close (tie.spec cast-result add-result returns)
+pub folded_spec : {M : Type 1} → statement M
+folded_spec = tie.close (tie.spec cast-result add-result returns)

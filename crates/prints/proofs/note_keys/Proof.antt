@@ -15,10 +15,10 @@ use Rattle.prints.proofs.Keys.{Printed, KeysTo, rest-room, key_fits, keys_none, 
 use Rattle.prints.proofs.note_keys.Statement.{statement}
 use Rattle.prints.proofs.note_keys.Tie as tie
 
-abbrev invariant-loop : tie.invariant-loop
+abbrev invariant-loop : tie.invariant-loop-p
 invariant-loop keys₀ at f rest cuts p₀ p-end keys p = (1 ≤ p) × (p ≤ p-end) × KeysTo f rest keys₀ keys at p
 
-abbrev decreases-loop : tie.decreases-loop
+abbrev decreases-loop : tie.decreases-loop-p
 decreases-loop keys₀ at f rest cuts p₀ p-end keys p = p-end - p
 
 -- ---- the clades are noted, and then the prints
@@ -26,138 +26,138 @@ abbrev WithClades : Type 0
 WithClades = tie.After-note invariant-loop decreases-loop
 
 abbrev start : WithClades → tie.Start invariant-loop decreases-loop
-start c = c.before.before.before.before.before.before
+start c = c.before.before.before.before.before
 
 abbrev WithPrints : Type 0
-WithPrints = tie.After-note2 invariant-loop decreases-loop
+WithPrints = tie.After-note-2 invariant-loop decreases-loop
 
 abbrev with-clades : WithPrints → WithClades
-with-clades c = c.before.before.before.before.before.before
+with-clades c = c.before.before.before.before.before
 
 abbrev begin : WithPrints → tie.Start invariant-loop decreases-loop
 begin c = start (with-clades c)
 
 note-requires : tie.Need-note-requires invariant-loop decreases-loop
-note-requires c κs = kept_whole c.before.before.before.before.before.requires.0
+note-requires c κs = kept_whole c.requires.0
 
 note-requires-2 : tie.Need-note-requires-2 invariant-loop decreases-loop
-note-requires-2 c κs = let n = c.before.before.before.before.before in (kept_whole (start n).requires.0, n.note.ensures)
+note-requires-2 c κs = (kept_whole c.requires.0, c.note.ensures)
 
-abbrev printed : (c : WithPrints) → Printed (begin c).args.t3.node (with-clades c).note.new.0 c.note2.new.0
-printed c = record { whole = kept_whole (begin c).requires.0; clades = (with-clades c).note.ensures; prints = c.note2.ensures }
+abbrev printed : (c : WithPrints) → Printed c.args.tree.node c.note.new.m c.note-2.new.f
+printed c = record { whole = kept_whole c.requires.0; clades = c.note.ensures; prints = c.note-2.ensures }
 
-note-rest-requires : tie.Need-note-rest-requires invariant-loop decreases-loop
-note-rest-requires c κs = rest-room (printed c.before.before.before.before.before.before)
+note-rest-requires : tie.Need-note_rest-requires invariant-loop decreases-loop
+note-rest-requires c κs = rest-room (printed c.before.before.before.before.before)
 
 -- ---- and the prints of what is left
 abbrev WithRests : Type 0
-WithRests = tie.After-note-rest invariant-loop decreases-loop
+WithRests = tie.After-note_rest invariant-loop decreases-loop
 
 abbrev with-prints : WithRests → WithPrints
-with-prints c = c.before.before.before.before.before.before.before
+with-prints c = c.before.before.before.before.before.before
 
-width-requires : tie.Need-width-requires invariant-loop decreases-loop
-width-requires c κs = kept-held (begin (with-prints c.before.before.before)).pre.0
+width-requires : tie.Need-width-cuts-requires invariant-loop decreases-loop
+width-requires c κs = kept-held c.requires.0
 
 -- the number of nodes is known
 abbrev Wide : Type 0
-Wide = tie.After-width invariant-loop decreases-loop
+Wide = tie.After-width-cuts invariant-loop decreases-loop
 
 abbrev with-rests : Wide → WithRests
-with-rests c = c.before.before.before.before
+with-rests c = c.before.before.before
 
 abbrev prints-of : Wide → WithPrints
 prints-of c = with-prints (with-rests c)
 
-width_is : (c : Wide) → c.width.result ≡ nodes_of (printed (prints-of c)).whole.tree
-width_is c = let w = (printed (prints-of c)).whole in c.width.ensures w.tree w.holds
+width_is : (c : Wide) → c.width-cuts.result ≡ nodes_of (printed (prints-of c)).whole.tree
+width_is c = let w = (printed (prints-of c)).whole in c.width-cuts.ensures w.tree w.holds
 
-some : (c : Wide) → 1 ≤ c.width.result
+some : (c : Wide) → 1 ≤ c.width-cuts.result
 some c = omega (arith, width_is c, some-nodes (printed (prints-of c)).whole.tree)
 
-sub-cuts : tie.Need-overflow-sub-cuts invariant-loop decreases-loop
+sub-cuts : tie.Need-overflow_sub-cuts invariant-loop decreases-loop
 sub-cuts c = some c
 
-add-p-end : tie.Need-overflow-add-p-end invariant-loop decreases-loop
+add-p-end : tie.Need-overflow_add-p-end invariant-loop decreases-loop
 add-p-end c = omega (arith, width_is c, few-nodes (printed (prints-of c)).whole.good)
 
-loop-holds : tie.Need-loop-init invariant-loop decreases-loop
+loop-holds : tie.Need-loop-p-init invariant-loop decreases-loop
 loop-holds c = (omega arith, omega arith, keys_none _ _ _ _)
 
 -- ---- a turn of the loop
 abbrev Turn : Type 0
-Turn = tie.In-loop invariant-loop decreases-loop
+Turn = tie.In-loop-p invariant-loop decreases-loop
 
 abbrev wide : Turn → Wide
 wide c = c.before.before
 
 abbrev at : Turn → ℕ
-at c = c.before.loop.p
+at c = c.loop-p.p
 
 few : (c : Turn) → at c < max_nodes
-few c = omega (arith, c.loop-test.true, width_is (wide c), few-nodes (printed (prints-of (wide c))).whole.good)
+few c = omega (arith, c.loop-p-test.true, width_is (wide c), few-nodes (printed (prints-of (wide c))).whole.good)
 
-mul-pruned : tie.Need-overflow-mul-pruned invariant-loop decreases-loop
-mul-pruned c = omega (arith, few c)
+mul-pruned : tie.Need-offset_bounds-f-p invariant-loop decreases-loop
+mul-pruned c = omega (arith, c.loop-p-test.true, width_is c.before.before, few-nodes (printed (prints-of c.before.before)).whole.good)
 
-array-read-pruned : tie.Need-array-read-pruned invariant-loop decreases-loop
-array-read-pruned c = few c
+array-read-pruned : tie.Need-bounds-f-p invariant-loop decreases-loop
+array-read-pruned c = omega (arith, c.loop-p-test.true, width_is c.before.before, few-nodes (printed (prints-of c.before.before)).whole.good)
 
-mul-folded : tie.Need-overflow-mul-folded invariant-loop decreases-loop
-mul-folded c = omega (arith, few c)
+mul-folded : tie.Need-offset_bounds-rest-p invariant-loop decreases-loop
+mul-folded c = omega (arith, c.loop-p-test.true, width_is c.before.before, few-nodes (printed (prints-of c.before.before)).whole.good)
 
-array-read-folded : tie.Need-array-read-folded invariant-loop decreases-loop
-array-read-folded c = few c
+array-read-folded : tie.Need-bounds-rest-p invariant-loop decreases-loop
+array-read-folded c = omega (arith, c.loop-p-test.true, width_is c.before.before, few-nodes (printed (prints-of c.before.before)).whole.good)
 
 fits : (c : Turn)
-    → let r = with-rests (wide c) in get_or (with-prints r).note2.last.0 (at c) 0 + get_or r.note-rest.last.0 (at c) 0 < 18446744073709551616
+    → let r = with-rests (wide c) in get_or r.note-2.new.f (at c) 0 + get_or r.note_rest.new.rest (at c) 0 < 18446744073709551616
 fits c =
     let w = wide c in
-    let node : at c < nodes_of (printed (prints-of w)).whole.tree = omega (arith, c.loop-test.true, width_is w) in
-    key_fits (printed (prints-of w)) (with-rests w).note-rest.ensures (at c) c.before.loop.invariant.0 node
+    let node : at c < nodes_of (printed (prints-of w)).whole.tree = omega (arith, c.loop-p-test.true, width_is w) in
+    key_fits (printed (prints-of w)) w.note_rest.ensures (at c) c.loop-p.invariant.0 node
 
-add-folded : tie.Need-overflow-add-folded invariant-loop decreases-loop
+add-folded : tie.Need-overflow_add-pruned invariant-loop decreases-loop
 add-folded c = omega (arith, fits c)
 
 folded-requires : tie.Need-folded-requires invariant-loop decreases-loop
 folded-requires c κs = search rules
 
-room : (c : Turn) → (begin (prints-of (wide c))).args.at + at c < length c.before.loop.keys
-room c = omega (arith, few c, (begin (prints-of (wide c))).pre.1, c.before.loop.invariant.2.long)
+room : (c : Turn) → c.args.at + at c < length c.loop-p.keys
+room c = omega (arith, few c, c.requires.1, c.loop-p.invariant.2.long)
 
-add-keys : tie.Need-overflow-add-keys invariant-loop decreases-loop
+add-keys : tie.Need-overflow_add-keys invariant-loop decreases-loop
 add-keys c = search (rules, room c.before)
 
-mul-keys : tie.Need-overflow-mul-keys invariant-loop decreases-loop
+mul-keys : tie.Need-offset_bounds-keys-at invariant-loop decreases-loop
 mul-keys c = search (rules, room c.before)
 
-slice-write-keys : tie.Need-slice-write-keys invariant-loop decreases-loop
+slice-write-keys : tie.Need-bounds-keys-at invariant-loop decreases-loop
 slice-write-keys c = room c.before
 
-add-p : tie.Need-overflow-add-p invariant-loop decreases-loop
+add-p : tie.Need-overflow_step-p invariant-loop decreases-loop
 add-p c = omega (arith, few c.before)
 
-loop-less : tie.Need-loop-smaller invariant-loop decreases-loop
-loop-less c = omega (arith, c.before.loop-test.true)
+loop-less : tie.Need-loop-p-smaller invariant-loop decreases-loop
+loop-less c = omega (arith, c.loop-p-test.true)
 
-loop-again : tie.Need-loop-preserved invariant-loop decreases-loop
+loop-again : tie.Need-loop-p-preserved invariant-loop decreases-loop
 loop-again c =
     let u = c.before in
-    let inv = u.before.loop.invariant in
-    (omega arith, omega (arith, u.loop-test.true), rw c.folded.ensures (keys-more inv.0 (room u) inv.2))
+    let inv = c.loop-p.invariant in
+    (omega arith, omega (arith, c.loop-p-test.true), rw c.folded.ensures (keys-more inv.0 (room u) inv.2))
 
-same_length : tie.Need-same-length invariant-loop decreases-loop
-same_length c = c.before.loop.invariant.2.long
+same_length : tie.Need-shape_of-keys invariant-loop decreases-loop
+same_length c = c.loop-p.invariant.2.long
 
 returns : tie.Need-returns invariant-loop decreases-loop
 returns c t k =
     let w = c.before.before in
-    let inv = c.before.loop.invariant in
-    let all : c.before.loop.p ≡ nodes_of (printed (prints-of w)).whole.tree = omega (arith, inv.1, c.loop-test.false, width_is w, some w) in
-    keys-noted (printed (prints-of w)) (with-rests w).note-rest.ensures all inv.2 (canon t) (keeps-holds k)
+    let inv = c.loop-p.invariant in
+    let all : c.loop-p.p ≡ nodes_of (printed (prints-of w)).whole.tree = omega (arith, inv.1, c.loop-p-test.false, width_is w, some w) in
+    keys-noted (printed (prints-of w)) c.note_rest.ensures all inv.2 (canon t) (keeps-holds k)
 
-pub note-keys-spec : {M : Type 1} → statement M
-note-keys-spec =
+pub note_keys_spec : {M : Type 1} → statement M
+note_keys_spec =
     tie.close
     (tie.spec
     invariant-loop

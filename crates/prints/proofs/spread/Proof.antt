@@ -7,7 +7,7 @@ use Rattle.prints.proofs.Print.{spread-fits}
 use Rattle.prints.proofs.spread.Statement.{statement}
 use Rattle.prints.proofs.spread.Tie as tie
 
-mul-result : tie.Need-overflow-mul-result
+mul-result : tie.Need-overflow_mul-result
 unfolding spread
 mul-result c = omega (arith, spread-fits c.args.x)
 
@@ -15,5 +15,5 @@ returns : tie.Need-returns
 unfolding spread
 returns c = refl
 
-pub spread-spec : {M : Type 1} → statement M
-spread-spec = tie.close (tie.spec mul-result returns)
+pub spread_spec : {M : Type 1} → statement M
+spread_spec = tie.close (tie.spec mul-result returns)

@@ -84,213 +84,212 @@ node-claims t = (
 )
 
 -- the entry, from where the first node was read, and what that says
-abbrev start : (t : ℕ) (c : read-fork-lts.After-read-node (fork-claims t) (read-fork-at t) read-fork.Post) → read-fork-lts.Start (fork-claims t) (read-fork-at t) read-fork.Post
+abbrev start : (t : ℕ) (c : read-fork-lts.After-read_node-first (fork-claims t) (read-fork-at t) read-fork.Post) → read-fork-lts.Start (fork-claims t) (read-fork-at t) read-fork.Post
 start t c = c.before.before.before.before.before
 
-first-met : (t : ℕ) (c : read-fork-lts.After-read-node (fork-claims t) (read-fork-at t) read-fork.Post)
+first-met : (t : ℕ) (c : read-fork-lts.After-read_node-first (fork-claims t) (read-fork-at t) read-fork.Post)
     → let a = (start t c).args in
     let node = set a.node.now a.at 0 in
-    Meets node c.read-node.new.1.1.1.0 c.read-node.new.1.1.1.1.1.0 (a.at + 1)
-    (read_node a.room a.s.now a.from (seen node (a.at + 1))) c.read-node.result
-first-met t c = c.read-node.ensures
+    Meets node c.read_node-first.new.node c.read_node-first.new.marks (a.at + 1)
+    (read_node a.room a.s.now a.from (seen node (a.at + 1))) c.read_node-first.result
+first-met t c = c.read_node-first.ensures
 
 -- and what the comma and the second node say
-abbrev first_of : (t : ℕ) (c : read-fork-lts.After-comma (fork-claims t) (read-fork-at t) read-fork.Post) → read-fork-lts.After-read-node (fork-claims t) (read-fork-at t) read-fork.Post
-first_of t c = c.before.before.before.before.before.before.before.before
+abbrev first_of : (t : ℕ) (c : read-fork-lts.In-Next-comma (fork-claims t) (read-fork-at t) read-fork.Post) → read-fork-lts.After-read_node-first (fork-claims t) (read-fork-at t) read-fork.Post
+first_of t c = c.before.before.before.before.before
 
-comma-is : (t : ℕ) (c : read-fork-lts.After-comma (fork-claims t) (read-fork-at t) read-fork.Post)
-    → let first = c.before.before.before.before.first.given.0 in
-    Passed first.1.0 (token_at 44 (start t (first_of t c)).args.s.now first.0) c.comma.given.0.0 c.comma.given.0.1.0
-comma-is t c = step-next c.before.before.expect-byte.ensures c.comma.given.1
+comma-is : (t : ℕ) (c : read-fork-lts.In-Next-comma (fork-claims t) (read-fork-at t) read-fork.Post)
+    → Passed c.in-Next.half (token_at 44 (start t (first_of t c)).args.s.now c.in-Next.p) c.in-Next-comma.q c.in-Next-comma.next
+comma-is t c = step-next c.expect_byte-comma.ensures c.in-Next-comma.is
 
-second-met : (t : ℕ) (c : read-fork-lts.After-read-node2 (fork-claims t) (read-fork-at t) read-fork.Post)
-    → let k = c.before.before.before.before in
+second-met : (t : ℕ) (c : read-fork-lts.After-read_node-second (fork-claims t) (read-fork-at t) read-fork.Post)
+    → let k = c.before.before.before in
     let a = (start t (first_of t k)).args in
-    let node = (first_of t k).read-node.new.1.1.1.0 in
-    Meets node c.read-node2.new.1.1.1.0 c.read-node2.new.1.1.1.1.1.0 k.comma.given.0.1.0
-    (read_node a.room a.s.now k.comma.given.0.0 (seen node k.comma.given.0.1.0)) c.read-node2.result
-second-met t c = c.read-node2.ensures
+    let node = (first_of t k).read_node-first.new.node in
+    Meets node c.read_node-second.new.node c.read_node-second.new.marks k.in-Next-comma.next
+    (read_node a.room a.s.now k.in-Next-comma.q (seen node k.in-Next-comma.next)) c.read_node-second.result
+second-met t c = c.read_node-second.ensures
 
-second-length : (t : ℕ) (c : read-fork-lts.After-read-node2 (fork-claims t) (read-fork-at t) read-fork.Post)
-    → length c.read-node2.new.1.1.1.0 ≡ length (start t (first_of t c.before.before.before.before)).args.node.now
-second-length t c = (second-met t c).same ∙ (first-met t (first_of t c.before.before.before.before)).same ∙ simp length-set
+second-length : (t : ℕ) (c : read-fork-lts.After-read_node-second (fork-claims t) (read-fork-at t) read-fork.Post)
+    → length c.read_node-second.new.node ≡ length (start t (first_of t c.before.before.before)).args.node.now
+second-length t c = (second-met t c).same ∙ (first-met t (first_of t c.before.before.before)).same ∙ simp length-set
 
-read-fork-slice-write-node : (t : ℕ) → read-fork-lts.Need-slice-write-node (fork-claims t) (read-fork-at t) read-fork.Post
-read-fork-slice-write-node t c = open-room c.before.before.requires.1
+read-fork-slice-write-node : (t : ℕ) → read-fork-lts.Need-bounds-node-at (fork-claims t) (read-fork-at t) read-fork.Post
+read-fork-slice-write-node t c = open-room c.requires.1
 
-read-fork-add-read-node : (t : ℕ) → read-fork-lts.Need-overflow-add-read-node (fork-claims t) (read-fork-at t) read-fork.Post
-read-fork-add-read-node t c = omega (arith, open-room c.before.before.before.requires.1, c.before.before.before.requires.1.size)
+read-fork-add-read-node : (t : ℕ) → read-fork-lts.Need-overflow_add-at (fork-claims t) (read-fork-at t) read-fork.Post
+read-fork-add-read-node t c = omega (arith, open-room c.requires.1, c.requires.1.size)
 
-read-fork-read-node-requires : (t : ℕ) → read-fork-lts.Need-read-node-requires (fork-claims t) (read-fork-at t) read-fork.Post
-read-fork-read-node-requires t c κs = (omega (arith, c.before.before.before.before.requires.0), draft-open c.before.before.before.before.requires.1)
+read-fork-read-node-requires : (t : ℕ) → read-fork-lts.Need-read_node-first-requires (fork-claims t) (read-fork-at t) read-fork.Post
+read-fork-read-node-requires t c κs = (omega (arith, c.requires.0), draft-open c.requires.1)
 
-read-fork-enum-known-first : (t : ℕ) → read-fork-lts.Need-enum-known-first (fork-claims t) (read-fork-at t) read-fork.Post
+read-fork-enum-known-first : (t : ℕ) → read-fork-lts.Need-enum_known-first (fork-claims t) (read-fork-at t) read-fork.Post
 read-fork-enum-known-first t c = search rules
 
-read-fork-enum-told : (t : ℕ) → read-fork-lts.Need-enum-told (fork-claims t) (read-fork-at t) read-fork.Post
+read-fork-enum-told : (t : ℕ) → read-fork-lts.Need-enum_told-1 (fork-claims t) (read-fork-at t) read-fork.Post
 read-fork-enum-told t c = search rules
 
-read-fork-same-length : (t : ℕ) → read-fork-lts.Need-same-length (fork-claims t) (read-fork-at t) read-fork.Post
-read-fork-same-length t c = (first-met t c.before.before.before.before).same ∙ simp length-set
+read-fork-same-length : (t : ℕ) → read-fork-lts.Need-shape_of-node-in_default (fork-claims t) (read-fork-at t) read-fork.Post
+read-fork-same-length t c = (first-met t c.before.before.before).same ∙ simp length-set
 
-read-fork-returns : (t : ℕ) → read-fork-lts.Need-returns (fork-claims t) (read-fork-at t) read-fork.Post
+read-fork-returns : (t : ℕ) → read-fork-lts.Need-returns-in_default (fork-claims t) (read-fork-at t) read-fork.Post
 read-fork-returns t c =
-    let d = c.before.before.before.before in
+    let d = c.before.before.before in
     let a = (start t d).args in
-    fork-no-first a.s.now a.from a.room (start t d).requires.1 (first-met t d) c.enum_told.given.1
+    fork-no-first a.s.now a.from a.room (start t d).requires.1 (first-met t d) c.in_default.is
 
-read-fork-expect-byte-requires : (t : ℕ) → read-fork-lts.Need-expect-byte-requires (fork-claims t) (read-fork-at t) read-fork.Post
+read-fork-expect-byte-requires : (t : ℕ) → read-fork-lts.Need-expect_byte-comma-requires (fork-claims t) (read-fork-at t) read-fork.Post
 read-fork-expect-byte-requires t c κs = search rules
 
-read-fork-enum-known-comma : (t : ℕ) → read-fork-lts.Need-enum-known-comma (fork-claims t) (read-fork-at t) read-fork.Post
+read-fork-enum-known-comma : (t : ℕ) → read-fork-lts.Need-enum_known-comma (fork-claims t) (read-fork-at t) read-fork.Post
 read-fork-enum-known-comma t c = search rules
 
-read-fork-enum-told-2 : (t : ℕ) → read-fork-lts.Need-enum-told-2 (fork-claims t) (read-fork-at t) read-fork.Post
+read-fork-enum-told-2 : (t : ℕ) → read-fork-lts.Need-enum_told-in_default-comma (fork-claims t) (read-fork-at t) read-fork.Post
 read-fork-enum-told-2 t c = search rules
 
-read-fork-same-length-2 : (t : ℕ) → read-fork-lts.Need-same-length-2 (fork-claims t) (read-fork-at t) read-fork.Post
-read-fork-same-length-2 t c = (first-met t c.before.before.before.before.before.before.before.before).same ∙ simp length-set
+read-fork-same-length-2 : (t : ℕ) → read-fork-lts.Need-shape_of-node-in_default-comma (fork-claims t) (read-fork-at t) read-fork.Post
+read-fork-same-length-2 t c = (first-met t c.before.before.before.before.before).same ∙ simp length-set
 
-read-fork-returns-2 : (t : ℕ) → read-fork-lts.Need-returns-2 (fork-claims t) (read-fork-at t) read-fork.Post
+read-fork-returns-2 : (t : ℕ) → read-fork-lts.Need-returns-in_default-comma (fork-claims t) (read-fork-at t) read-fork.Post
 read-fork-returns-2 t c =
-    let d = c.before.before.before.before.before.before.before.before in
+    let d = c.before.before.before.before.before in
     let a = (start t d).args in
     fork-no-comma a.s.now a.from a.room (start t d).requires.1 (first-met t d)
-    c.before.before.before.before.first.given.1 c.before.before.expect-byte.ensures c.enum-told2.given.1
+    c.in-Next.is c.expect_byte-comma.ensures c.in_default-comma.is
 
-read-fork-read-node-requires-2 : (t : ℕ) → read-fork-lts.Need-read-node-requires-2 (fork-claims t) (read-fork-at t) read-fork.Post
+read-fork-read-node-requires-2 : (t : ℕ) → read-fork-lts.Need-read_node-second-requires (fork-claims t) (read-fork-at t) read-fork.Post
 read-fork-read-node-requires-2 t c κs =
-    let k = c.before.before.before in
+    let k = c.before.before in
     let d = first_of t k in
     let a = (start t d).args in
-    let e = k.before.before.before.before.first.given.1 in (
-      node-takes a.room a.s.now a.from _ (start t d).pre.0 (second-behind a.s.now a.from a.room (start t d).pre.1 (first-met t d) e (comma-is t k)),
-      second-draft a.s.now a.from a.room (start t d).pre.1 (first-met t d) e (comma-is t k),
+    let e = k.in-Next.is in (
+      node-takes a.room a.s.now a.from _ (start t d).requires.0 (second-behind a.s.now a.from a.room (start t d).requires.1 (first-met t d) e (comma-is t k)),
+      second-draft a.s.now a.from a.room (start t d).requires.1 (first-met t d) e (comma-is t k),
     )
 
-read-fork-enum-known-second : (t : ℕ) → read-fork-lts.Need-enum-known-second (fork-claims t) (read-fork-at t) read-fork.Post
+read-fork-enum-known-second : (t : ℕ) → read-fork-lts.Need-enum_known-second (fork-claims t) (read-fork-at t) read-fork.Post
 read-fork-enum-known-second t c = search rules
 
-read-fork-enum-told-3 : (t : ℕ) → read-fork-lts.Need-enum-told-3 (fork-claims t) (read-fork-at t) read-fork.Post
+read-fork-enum-told-3 : (t : ℕ) → read-fork-lts.Need-enum_told-in_default-second (fork-claims t) (read-fork-at t) read-fork.Post
 read-fork-enum-told-3 t c = search rules
 
-read-fork-same-length-3 : (t : ℕ) → read-fork-lts.Need-same-length-3 (fork-claims t) (read-fork-at t) read-fork.Post
-read-fork-same-length-3 t c = second-length t c.before.before.before.before
+read-fork-same-length-3 : (t : ℕ) → read-fork-lts.Need-shape_of-node-in_default-second (fork-claims t) (read-fork-at t) read-fork.Post
+read-fork-same-length-3 t c = second-length t c.before.before.before
 
-read-fork-returns-3 : (t : ℕ) → read-fork-lts.Need-returns-3 (fork-claims t) (read-fork-at t) read-fork.Post
+read-fork-returns-3 : (t : ℕ) → read-fork-lts.Need-returns-in_default-second (fork-claims t) (read-fork-at t) read-fork.Post
 read-fork-returns-3 t c =
-    let e = c.before.before.before.before in
-    let k = e.before.before.before.before in
+    let e = c.before.before.before in
+    let k = e.before.before.before in
     let d = first_of t k in
     let a = (start t d).args in
-    fork-no-second a.s.now a.from a.room (start t d).pre.1 (first-met t d) k.before.before.before.before.first.given.1 (comma-is t k) (second-met t e) c.enum-told3.given.1
+    fork-no-second a.s.now a.from a.room (start t d).requires.1 (first-met t d) k.in-Next.is (comma-is t k) (second-met t e) c.in_default-second.is
 
-read-fork-fork-byte-requires : (t : ℕ) → read-fork-lts.Need-fork-byte-requires (fork-claims t) (read-fork-at t) read-fork.Post
+read-fork-fork-byte-requires : (t : ℕ) → read-fork-lts.Need-fork_byte-requires (fork-claims t) (read-fork-at t) read-fork.Post
 read-fork-fork-byte-requires t c κs =
-    let e = c.before.before.before.before.before in
-    let k = e.before.before.before.before in
+    let e = c.before.before.before in
+    let k = e.before.before.before in
     let d = first_of t k in
     let a = (start t d).args in
-    close-room a.s.now a.from a.room (start t d).pre.1 (first-met t d) k.before.before.before.before.first.given.1 (comma-is t k) (second-met t e) c.before.second.given.1
+    close-room a.s.now a.from a.room (start t d).requires.1 (first-met t d) k.in-Next.is (comma-is t k) (second-met t e) c.in-Next-second.is
 
-read-fork-slice-write-node-2 : (t : ℕ) → read-fork-lts.Need-slice-write-node-2 (fork-claims t) (read-fork-at t) read-fork.Post
+read-fork-slice-write-node-2 : (t : ℕ) → read-fork-lts.Need-bounds-node-at-2 (fork-claims t) (read-fork-at t) read-fork.Post
 read-fork-slice-write-node-2 t c =
-    let e = c.before.before.before.before.before.before in
-    let d = first_of t e.before.before.before.before in
-    omega (arith, second-length t e, open-room (start t d).pre.1)
+    let e = c.before.before.before.before in
+    let d = first_of t e.before.before.before in
+    omega (arith, second-length t e, open-room (start t d).requires.1)
 
-read-fork-expect-byte-requires-2 : (t : ℕ) → read-fork-lts.Need-expect-byte-requires-2 (fork-claims t) (read-fork-at t) read-fork.Post
+read-fork-expect-byte-requires-2 : (t : ℕ) → read-fork-lts.Need-expect_byte-requires (fork-claims t) (read-fork-at t) read-fork.Post
 read-fork-expect-byte-requires-2 t c κs = search rules
 
-read-fork-same-length-4 : (t : ℕ) → read-fork-lts.Need-same-length-4 (fork-claims t) (read-fork-at t) read-fork.Post
-read-fork-same-length-4 t c = simp length-set (second-length t c.before.before.before.before.before.before.before)
+read-fork-same-length-4 : (t : ℕ) → read-fork-lts.Need-shape_of-node (fork-claims t) (read-fork-at t) read-fork.Post
+read-fork-same-length-4 t c = simp length-set (second-length t c.before.before.before.before.before)
 
-read-fork-returns-4 : (t : ℕ) → read-fork-lts.Need-returns-4 (fork-claims t) (read-fork-at t) read-fork.Post
+read-fork-returns-4 : (t : ℕ) → read-fork-lts.Need-returns (fork-claims t) (read-fork-at t) read-fork.Post
 read-fork-returns-4 t c =
-    let e = c.before.before.before.before.before.before.before in
-    let k = e.before.before.before.before in
+    let e = c.before.before.before.before.before in
+    let k = e.before.before.before in
     let d = first_of t k in
     let a = (start t d).args in
-    fork-closed a.s.now a.from a.room (start t d).pre.1 (first-met t d)
-    k.before.before.before.before.first.given.1 (comma-is t k) (second-met t e) c.before.before.before.second.given.1 _ c.before.fork-byte.ensures c.expect-byte2.ensures
+    fork-closed a.s.now a.from a.room (start t d).requires.1 (first-met t d)
+    k.in-Next.is (comma-is t k) (second-met t e) c.in-Next-second.is _ c.fork_byte.ensures c.expect_byte.ensures
 
-read-node-skip-blanks-requires : (t : ℕ) → read-node-lts.Need-skip-blanks-requires (node-claims t) (read-node-at t) read-node.Post
+read-node-skip-blanks-requires : (t : ℕ) → read-node-lts.Need-skip_blanks-q-requires (node-claims t) (read-node-at t) read-node.Post
 read-node-skip-blanks-requires t c κs = search rules
 
-read-node-byte-at-requires : (t : ℕ) → read-node-lts.Need-byte-at-requires (node-claims t) (read-node-at t) read-node.Post
+read-node-byte-at-requires : (t : ℕ) → read-node-lts.Need-byte_at-b-requires (node-claims t) (read-node-at t) read-node.Post
 read-node-byte-at-requires t c κs = search rules
 
-read-node-is-digit-requires : (t : ℕ) → read-node-lts.Need-is-digit-requires (node-claims t) (read-node-at t) read-node.Post
+read-node-is-digit-requires : (t : ℕ) → read-node-lts.Need-is_digit-requires (node-claims t) (read-node-at t) read-node.Post
 read-node-is-digit-requires t c κs = search rules
 
-read-node-read-label-requires : (t : ℕ) → read-node-lts.Need-read-label-requires (node-claims t) (read-node-at t) read-node.Post
-read-node-read-label-requires t c κs = less-room c.before.before.before.before.before.before.before.before.requires.1 (omega arith)
+read-node-read-label-requires : (t : ℕ) → read-node-lts.Need-read_label-requires (node-claims t) (read-node-at t) read-node.Post
+read-node-read-label-requires t c κs = less-room c.requires.1 (omega arith)
 
-read-node-same-length : (t : ℕ) → read-node-lts.Need-same-length (node-claims t) (read-node-at t) read-node.Post
-read-node-same-length t c = c.before.before.read-label.ensures.same
+read-node-same-length : (t : ℕ) → read-node-lts.Need-shape_of-node-then-is_digit (node-claims t) (read-node-at t) read-node.Post
+read-node-same-length t c = c.read_label.ensures.same
 
-read-node-returns : (t : ℕ) → read-node-lts.Need-returns (node-claims t) (read-node-at t) read-node.Post
+read-node-returns : (t : ℕ) → read-node-lts.Need-returns-then-is_digit (node-claims t) (read-node-at t) read-node.Post
 read-node-returns t c =
     let d = c.before.before.before.before.before in
-    let a = d.before.before.before.before.before.before.args in
-    via-label a.s.now a.from d.before.before.before.skip-blanks.ensures d.before.before.byte_at.ensures d.before.is_digit.ensures
-    a.room d.if1.true c.before.before.read-label.ensures
+    let a = d.args in
+    via-label a.s.now a.from d.skip_blanks-q.ensures d.byte_at-b.ensures d.is_digit.ensures
+    a.room d.if-is_digit.true c.read_label.ensures
 
 read-node-refuse-requires : (t : ℕ) → read-node-lts.Need-refuse-requires (node-claims t) (read-node-at t) read-node.Post
 read-node-refuse-requires t c κs = search rules
 
-read-node-returns-2 : (t : ℕ) → read-node-lts.Need-returns-2 (node-claims t) (read-node-at t) read-node.Post
+read-node-returns-2 : (t : ℕ) → read-node-lts.Need-returns-then-room-eq0 (node-claims t) (read-node-at t) read-node.Post
 read-node-returns-2 t c =
     let d = c.before.before.before in
-    let a = d.before.before.before.before.before.before.args in
-    via-deep a.s.now a.from d.before.before.before.skip-blanks.ensures d.before.before.byte_at.ensures d.before.is_digit.ensures
-    a.room d.if1.false c.before.before.if2.true c.before.if3.true c.refuse.ensures refl
+    let a = d.args in
+    via-deep a.s.now a.from d.skip_blanks-q.ensures d.byte_at-b.ensures d.is_digit.ensures
+    a.room d.if-is_digit.false c.if-b-eq40.true c.if-room-eq0.true c.refuse.ensures refl
 
 -- the bracket is in the text
-bracket-in : (t : ℕ) (c : read-node-lts.Else3 (node-claims t) (read-node-at t) read-node.Post)
-    → c.before.before.before.before.before.skip-blanks.result < length c.before.before.before.before.before.before.before.before.args.s.now
-bracket-in t c = inside c.before.before.before.before.before.before.before.before.args.s.now
-    c.before.before.before.before.before.skip-blanks.result (sym c.before.before.before.before.byte_at.ensures ∙ c.before.if2.true) (lit< tt)
+bracket-in : (t : ℕ) (c : read-node-lts.Else-room-eq0 (node-claims t) (read-node-at t) read-node.Post)
+    → c.skip_blanks-q.result < length c.args.s.now
+bracket-in t c = inside c.args.s.now
+    c.skip_blanks-q.result (sym c.byte_at-b.ensures ∙ c.if-b-eq40.true) (lit< tt)
 
-read-node-add-read-fork : (t : ℕ) → read-node-lts.Need-overflow-add-read-fork (node-claims t) (read-node-at t) read-node.Post
+read-node-add-read-fork : (t : ℕ) → read-node-lts.Need-overflow_add-q (node-claims t) (read-node-at t) read-node.Post
 read-node-add-read-fork t c = omega (arith, bracket-in t c)
 
-read-node-sub-read-fork : (t : ℕ) → read-node-lts.Need-overflow-sub-read-fork (node-claims t) (read-node-at t) read-node.Post
+read-node-sub-read-fork : (t : ℕ) → read-node-lts.Need-overflow_sub-room (node-claims t) (read-node-at t) read-node.Post
 read-node-sub-read-fork t c = search rules
 
-read-node-read-fork-requires : (t : ℕ) → read-node-lts.Need-read-fork-requires (node-claims t) (read-node-at t) read-node.Post
+read-node-read-fork-requires : (t : ℕ) → read-node-lts.Need-read_fork-requires (node-claims t) (read-node-at t) read-node.Post
 read-node-read-fork-requires t c κs =
     let start = c.before.before.before.before.before.before.before.before.before.before in
     let a = start.args in
     let k = c.before.before in
-    let e = k.before.before.before.before.before.skip-blanks.ensures in (
-      bracket-takes a.room a.s.now a.from _ start.requires.0 k.if3.false e (bracket-in t k),
-      less-room start.requires.1 (omega (arith, k.if3.false)),
+    let e = k.skip_blanks-q.ensures in (
+      bracket-takes a.room a.s.now a.from _ start.requires.0 k.if-room-eq0.false e (bracket-in t k),
+      less-room start.requires.1 (omega (arith, k.if-room-eq0.false)),
     )
 
-read-node-same-length-2 : (t : ℕ) → read-node-lts.Need-same-length-2 (node-claims t) (read-node-at t) read-node.Post
-read-node-same-length-2 t c = c.before.before.read-fork.ensures.same
+read-node-same-length-2 : (t : ℕ) → read-node-lts.Need-shape_of-node-then-b-eq40 (node-claims t) (read-node-at t) read-node.Post
+read-node-same-length-2 t c = c.read_fork.ensures.same
 
-read-node-returns-3 : (t : ℕ) → read-node-lts.Need-returns-3 (node-claims t) (read-node-at t) read-node.Post
+read-node-returns-3 : (t : ℕ) → read-node-lts.Need-returns-then-b-eq40 (node-claims t) (read-node-at t) read-node.Post
 read-node-returns-3 t c =
     let e = c.before.before.before.before.before in
     let d = e.before.before in
-    let a = d.before.before.before.before.before.before.args in
-    via-fork a.s.now a.from d.before.before.before.skip-blanks.ensures d.before.before.byte_at.ensures d.before.is_digit.ensures
-    a.room d.if1.false e.before.if2.true e.if3.false c.before.before.read-fork.ensures
+    let a = d.args in
+    via-fork a.s.now a.from d.skip_blanks-q.ensures d.byte_at-b.ensures d.is_digit.ensures
+    a.room d.if-is_digit.false e.if-b-eq40.true e.if-room-eq0.false c.read_fork.ensures
 
 read-node-refuse-requires-2 : (t : ℕ) → read-node-lts.Need-refuse-requires-2 (node-claims t) (read-node-at t) read-node.Post
 read-node-refuse-requires-2 t c κs = search rules
 
-read-node-returns-4 : (t : ℕ) → read-node-lts.Need-returns-4 (node-claims t) (read-node-at t) read-node.Post
+read-node-returns-4 : (t : ℕ) → read-node-lts.Need-returns (node-claims t) (read-node-at t) read-node.Post
 read-node-returns-4 t c =
     let d = c.before.before in
-    let a = d.before.before.before.before.before.before.args in
-    via-wrong a.s.now a.from d.before.before.before.skip-blanks.ensures d.before.before.byte_at.ensures d.before.is_digit.ensures
-    a.room d.if1.false c.before.if2.false c.refuse2.ensures refl
+    let a = d.args in
+    via-wrong a.s.now a.from d.skip_blanks-q.ensures d.byte_at-b.ensures d.is_digit.ensures
+    a.room d.if-is_digit.false c.if-b-eq40.false c.refuse-2.ensures refl
 
-pub +read-fork-read-node-spec : {M : Type 1} → statement M
-+read-fork-read-node-spec = close μ-read-fork μ-read-node (λ t. read-fork-lts.spec (fork-claims t)
+pub +read_fork_read_node_spec : {M : Type 1} → statement M
++read_fork_read_node_spec = close μ-read-fork μ-read-node (λ t. read-fork-lts.spec (fork-claims t)
     (read-fork-at t)
     read-fork.Post
     (read-fork-slice-write-node t)

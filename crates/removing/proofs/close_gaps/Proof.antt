@@ -14,85 +14,85 @@ use Rattle.removing.proofs.Gaps.{gap-none, to_le, gap-skip, gap-take}
 use Rattle.removing.proofs.close_gaps.Statement.{statement}
 use Rattle.removing.proofs.close_gaps.Tie as tie
 
-abbrev invariant-loop : tie.invariant-loop
+abbrev invariant-loop : tie.invariant-loop-k
 invariant-loop memory₀ n x to₀ k₀ memory to k = Wrote (others_in memory₀ k x) memory₀ memory entries_at to × (k ≤ n)
 
-abbrev decreases-loop : tie.decreases-loop
+abbrev decreases-loop : tie.decreases-loop-k
 decreases-loop memory₀ n x to₀ k₀ memory to k = n - k
 
-loop-holds : tie.Need-loop-init invariant-loop decreases-loop
+loop-holds : tie.Need-loop-k-init invariant-loop decreases-loop
 loop-holds c = (gap-none c.args.memory.now c.args.x, omega arith)
 
-mul-y : tie.Need-overflow-mul-y invariant-loop decreases-loop
+mul-y : tie.Need-overflow_mul-y invariant-loop decreases-loop
 mul-y c = omega arith
 
-add-y : tie.Need-overflow-add-y invariant-loop decreases-loop
+add-y : tie.Need-overflow_add-y invariant-loop decreases-loop
 add-y c = omega arith
 
-slice-read-y : tie.Need-slice-read-y invariant-loop decreases-loop
-slice-read-y c = omega (arith, wrote-length c.before.before.loop.invariant.0)
+slice-read-y : tie.Need-bounds-memory-k invariant-loop decreases-loop
+slice-read-y c = omega (arith, wrote-length c.loop-k.invariant.0)
 
-mul-c : tie.Need-overflow-mul-c invariant-loop decreases-loop
+mul-c : tie.Need-overflow_mul-c invariant-loop decreases-loop
 mul-c c = omega arith
 
-add-c : tie.Need-overflow-add-c invariant-loop decreases-loop
+add-c : tie.Need-overflow_add-c invariant-loop decreases-loop
 add-c c = omega arith
 
-add-c-2 : tie.Need-overflow-add-c-2 invariant-loop decreases-loop
+add-c-2 : tie.Need-overflow_add-c-in-loop-k invariant-loop decreases-loop
 add-c-2 c = omega arith
 
-slice-read-c : tie.Need-slice-read-c invariant-loop decreases-loop
-slice-read-c c = omega (arith, wrote-length c.before.before.before.loop.invariant.0)
+slice-read-c : tie.Need-bounds-memory-k-in-loop-k invariant-loop decreases-loop
+slice-read-c c = omega (arith, wrote-length c.loop-k.invariant.0)
 
 -- what is kept is written no further on than entries were read, in memory as long as it was
-room : (c : tie.Then1 invariant-loop decreases-loop)
-    → let o = c.before.before.before.before in (o.loop.to ≤ entries_at + 2 * o.loop.k) × (length o.loop.memory ≡ length o.before.args.memory.now)
+room : (c : tie.Then-y-x invariant-loop decreases-loop)
+    → let o = c.before.before.before.before in (o.loop-k.to ≤ entries_at + 2 * o.loop-k.k) × (length o.loop-k.memory ≡ length o.args.memory.now)
 room c =
     let o = c.before.before.before.before in
-    let a = o.before.args in
-    (to_le a.memory.now a.x o.loop.k o.loop.invariant.0, wrote-length o.loop.invariant.0)
+    let a = o.args in
+    (to_le a.memory.now a.x o.loop-k.k o.loop-k.invariant.0, wrote-length o.loop-k.invariant.0)
 
-slice-write-memory : tie.Need-slice-write-memory invariant-loop decreases-loop
+slice-write-memory : tie.Need-bounds-memory-to invariant-loop decreases-loop
 slice-write-memory c = omega (arith, room c)
 
-add-memory : tie.Need-overflow-add-memory invariant-loop decreases-loop
+add-memory : tie.Need-overflow_add-memory invariant-loop decreases-loop
 add-memory c = omega (arith, room c)
 
-slice-write-memory-2 : tie.Need-slice-write-memory-2 invariant-loop decreases-loop
+slice-write-memory-2 : tie.Need-bounds-memory-to-then-y-x invariant-loop decreases-loop
 slice-write-memory-2 c = simp length-set (omega (arith, room c))
 
-add-to : tie.Need-overflow-add-to invariant-loop decreases-loop
+add-to : tie.Need-overflow_add-to invariant-loop decreases-loop
 add-to c = omega (arith, room c)
 
-add-k : tie.Need-overflow-add-k invariant-loop decreases-loop
+add-k : tie.Need-overflow_step-k invariant-loop decreases-loop
 add-k c = omega arith
 
-loop-less : tie.Need-loop-smaller invariant-loop decreases-loop
+loop-less : tie.Need-loop-k-smaller invariant-loop decreases-loop
 loop-less c = omega arith
 
-loop-again : tie.Need-loop-preserved invariant-loop decreases-loop
+loop-again : tie.Need-loop-k-preserved invariant-loop decreases-loop
 loop-again c =
     let o = c.before.before.before.before in
-    let a = o.before.args in
-    let k = o.loop.k in
-    let w = o.loop.invariant.0 in
+    let a = o.args in
+    let k = o.loop-k.k in
+    let w = o.loop-k.invariant.0 in
     let goal : List ℕ → ℕ → Type 0 = λ m r. Wrote (others_in a.memory.now (k + 1) a.x) a.memory.now m entries_at r in (
-      ⊎_elim (λ t. subst₂ goal (sym t.1) (sym t.2) (gap-take a.memory.now a.x k w t.0.taken))
-          (λ t. subst₂ goal (sym t.1) (sym t.2) (gap-skip a.memory.now a.x k w t.0.left)) c.if1.branch,
+      ⊎_elim (λ t. subst₂ goal (sym t.memory-is) (sym t.to-is) (gap-take a.memory.now a.x k w t.if-y-x.true))
+          (λ t. subst₂ goal (sym t.memory-is) (sym t.to-is) (gap-skip a.memory.now a.x k w t.if-y-x.false)) c.if-y-x.branch-raw,
       omega arith,
     )
 
-same_length : tie.Need-same-length invariant-loop decreases-loop
-same_length c = wrote-length c.before.loop.invariant.0
+same_length : tie.Need-shape_of-memory invariant-loop decreases-loop
+same_length c = wrote-length c.loop-k.invariant.0
 
 returns : tie.Need-returns invariant-loop decreases-loop
 returns c =
-    let a = c.before.before.args in
-    let all : c.before.loop.k ≡ a.n = omega arith in
-    subst (λ (k : ℕ). Wrote (others_in a.memory.now k a.x) a.memory.now c.before.loop.memory entries_at c.before.loop.to) all c.before.loop.invariant.0
+    let a = c.args in
+    let all : c.loop-k.k ≡ a.n = omega arith in
+    subst (λ (k : ℕ). Wrote (others_in a.memory.now k a.x) a.memory.now c.loop-k.memory entries_at c.loop-k.to) all c.loop-k.invariant.0
 
-pub close-gaps-spec : {M : Type 1} → statement M
-close-gaps-spec =
+pub close_gaps_spec : {M : Type 1} → statement M
+close_gaps_spec =
     tie.close
     (tie.spec
     invariant-loop

@@ -10,41 +10,41 @@ use Rattle.removing.proofs.Removal.{removed}
 use Rattle.removing.proofs.remove.Statement.{statement}
 use Rattle.removing.proofs.remove.Tie as tie
 
-count-requires : tie.Need-count-requires
-count-requires c κs = let R = c.before.before.requires in record { slots = _; shelved = index-shelved R.long R.index }
+count-requires : tie.Need-count-n-requires
+count-requires c κs = let R = c.requires in record { slots = _; shelved = index-shelved R.long R.index }
 
 -- there is room for the entries
-few : (c : tie.After-count) → 2 * c.count.result ≤ entry_bytes
-few c = let R = c.before.before.before.requires in omega (arith, few-entries R.index.trees, c.count.ensures _ (index-shelved R.long R.index))
+few : (c : tie.After-count-n) → 2 * c.count-n.result ≤ entry_bytes
+few c = let R = c.requires in omega (arith, few-entries R.index.trees, c.count-n.ensures _ (index-shelved R.long R.index))
 
-cast-close-gaps : tie.Need-overflow-cast-close-gaps
+cast-close-gaps : tie.Need-overflow_cast-x
 cast-close-gaps c = search rules
 
-close-gaps-requires : tie.Need-close-gaps-requires
-close-gaps-requires c κs = omega (arith, few c.before, c.before.before.before.before.requires.long)
+close-gaps-requires : tie.Need-close_gaps-end-requires
+close-gaps-requires c κs = omega (arith, few c.before, c.requires.long)
 
-mul-clear-bytes : tie.Need-overflow-mul-clear-bytes
+mul-clear-bytes : tie.Need-overflow_mul-n
 mul-clear-bytes c = omega (arith, few c.before.before.before.before.before)
 
-add-clear-bytes : tie.Need-overflow-add-clear-bytes
+add-clear-bytes : tie.Need-overflow_add-n
 add-clear-bytes c = omega (arith, few c.before.before.before.before.before)
 
-clear-bytes-requires : tie.Need-clear-bytes-requires
-clear-bytes-requires c κs = let n = c.before.before.before.before.before in omega (arith, few n, n.before.before.before.requires.long)
+clear-bytes-requires : tie.Need-clear_bytes-requires
+clear-bytes-requires c κs = let n = c.before.before.before.before.before in omega (arith, few n, n.requires.long)
 
-mul-clear-bytes-2 : tie.Need-overflow-mul-clear-bytes-2
+mul-clear-bytes-2 : tie.Need-overflow_mul-x
 mul-clear-bytes-2 c = search rules
 
-add-clear-bytes-2 : tie.Need-overflow-add-clear-bytes-2
+add-clear-bytes-2 : tie.Need-overflow_add-x
 add-clear-bytes-2 c = search rules
 
-mul-clear-bytes-3 : tie.Need-overflow-mul-clear-bytes-3
+mul-clear-bytes-3 : tie.Need-overflow_mul-x-2
 mul-clear-bytes-3 c = search rules
 
-clear-bytes-requires-2 : tie.Need-clear-bytes-requires-2
+clear-bytes-requires-2 : tie.Need-clear_bytes-requires-2
 clear-bytes-requires-2 c κs = search rules
 
-same_length : tie.Need-same-length
+same_length : tie.Need-shape_of-memory
 same_length c = search rules
 
 returns : tie.Need-returns
@@ -53,11 +53,11 @@ returns c = λ hs I.
     let v = u.before.before.before.before in
     let g = v.before.before.before.before in
     let n = g.before.before in
-    let R = n.before.before.before.requires in
-    removed I R.long _ n.count.result R.inside (n.count.ensures hs (index-shelved R.long I)) g.close-gaps.ensures v.clear-bytes.ensures u.clear-bytes2.ensures
+    let R = n.requires in
+    removed I R.long _ n.count-n.result R.inside (n.count-n.ensures hs (index-shelved R.long I)) g.close_gaps-end.ensures v.clear_bytes.ensures u.clear_bytes-2.ensures
 
-pub remove-spec : {M : Type 1} → statement M
-remove-spec =
+pub remove_spec : {M : Type 1} → statement M
+remove_spec =
     tie.close
     (tie.spec
     count-requires

@@ -8,26 +8,26 @@ use borrow.Author.Rules.{rules}
 use Rattle.replies.proofs.table_reply.Statement.{statement}
 use Rattle.replies.proofs.table_reply.Tie as tie
 
-enum-known-answer : tie.Need-enum-known-answer
+enum-known-answer : tie.Need-enum_known-answer
 enum-known-answer c = search rules
 
 accepted-requires : tie.Need-accepted-requires
 accepted-requires c κs = search rules
 
-enum-known-answer-2 : tie.Need-enum-known-answer-2
+enum-known-answer-2 : tie.Need-enum_known-answer-in-Refused-1
 enum-known-answer-2 c = search rules
 
 refused-requires : tie.Need-refused-requires
 refused-requires c κs = search rules
 
-returns : tie.Need-returns
-returns c = said-accepted table_value c.accepted.ensures (ap table_answer c.before.before.answer.given.1)
+returns : tie.Need-returns-in-Written
+returns c = said-accepted table_value c.accepted.ensures (ap table_answer c.in-Written.is)
 
-returns-2 : tie.Need-returns-2
-returns-2 c = said-refused table_value c.refused.ensures (ap table_answer c.before.before.answer2.given.1) c.before.before.before.before.requires
+returns-2 : tie.Need-returns-in-Refused
+returns-2 c = said-refused table_value c.refused.ensures (ap table_answer c.in-Refused.is) c.requires
 
-pub table-reply-spec : {M : Type 1} → statement M
-table-reply-spec =
+pub table_reply_spec : {M : Type 1} → statement M
+table_reply_spec =
     tie.close
     (tie.spec
     enum-known-answer

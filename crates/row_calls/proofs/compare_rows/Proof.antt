@@ -5,42 +5,38 @@ use Rattle.row_calls.proofs.Rowing.{row-some, labels-differ, rows_told}
 use Rattle.row_calls.proofs.compare_rows.Statement.{statement}
 use Rattle.row_calls.proofs.compare_rows.Tie as tie
 
-shared-slice-read-if1 : tie.Need-shared-slice-read-if1
-shared-slice-read-if1 c = let s = c.before.before.before in row-some s.args.row.now s.requires.0
+shared-slice-read-if1 : tie.Need-bounds-row-0
+shared-slice-read-if1 c = row-some c.args.row.now c.requires.0
 
-shared-slice-read-if1-2 : tie.Need-shared-slice-read-if1-2
-shared-slice-read-if1-2 c = let s = c.before.before.before.before in row-some s.args.other.now s.requires.1
+shared-slice-read-if1-2 : tie.Need-bounds-other-0
+shared-slice-read-if1-2 c = row-some c.args.other.now c.requires.1
 
-refusal-at-zero-requires : tie.Need-refusal-at-zero-requires
+refusal-at-zero-requires : tie.Need-refusal_at_zero-requires
 refusal-at-zero-requires c κs = search rules
 
-returns : tie.Need-returns
+returns : tie.Need-returns-then-row-other
 returns c =
-    let s = c.before.before.before.before.before.before in
-    labels-differ s.args.row.now s.args.other.now s.requires.0 s.requires.1 c.before.if1.true c.refusal-at-zero.ensures
+    labels-differ c.args.row.now c.args.other.now c.requires.0 c.requires.1 c.if-row-other.true c.refusal_at_zero.ensures
 
-tree-of-requires : tie.Need-tree-of-requires
+tree-of-requires : tie.Need-tree_of-requires
 tree-of-requires c κs = search rules
 
-tree-of-requires-2 : tie.Need-tree-of-requires-2
+tree-of-requires-2 : tie.Need-tree_of-requires-2
 tree-of-requires-2 c κs = search rules
 
-one-move-apart-requires : tie.Need-one-move-apart-requires
+one-move-apart-requires : tie.Need-one_move_apart-requires
 one-move-apart-requires c κs = search rules
 
-pair-answer-requires : tie.Need-pair-answer-requires
+pair-answer-requires : tie.Need-pair_answer-requires
 pair-answer-requires c κs = search rules
 
-returns-2 : tie.Need-returns-2
+returns-2 : tie.Need-returns
 returns-2 c =
-    let d = c.before in
-    let e = d.before.before.before in
-    let s = e.before.before.before.before.before in
-    rows_told s.args.row.now s.args.other.now s.requires.0 s.requires.1 e.if1.false d.one-move-apart.result
-    (d.one-move-apart.ensures _ _ d.before.before.tree_of.ensures.keeps d.before.tree-of2.ensures.keeps) c.pair-answer.ensures
+    rows_told c.args.row.now c.args.other.now c.requires.0 c.requires.1 c.if-row-other.false c.one_move_apart.result
+    (c.one_move_apart.ensures _ _ c.tree_of.ensures.keeps c.tree_of-2.ensures.keeps) c.pair_answer.ensures
 
-pub compare-rows-spec : {M : Type 1} → statement M
-compare-rows-spec =
+pub compare_rows_spec : {M : Type 1} → statement M
+compare_rows_spec =
     tie.close
     (tie.spec
     shared-slice-read-if1

@@ -11,52 +11,48 @@ use Rattle.families.proofs.RowSteps.{fit-end, fit_on, fit-not}
 use Rattle.rows.proofs.all_fit.Statement.{statement}
 use Rattle.rows.proofs.all_fit.Tie as tie
 
-abbrev invariant-loop : tie.invariant-loop
+abbrev invariant-loop : tie.invariant-loop-i
 invariant-loop clades i₀ i-end i = all_fit clades ≡ all_fit (drop i clades)
 
-abbrev decreases-loop : tie.decreases-loop
+abbrev decreases-loop : tie.decreases-loop-i
 decreases-loop clades i₀ i-end i = length clades - i
 
-loop-holds : tie.Need-loop-init invariant-loop decreases-loop
+loop-holds : tie.Need-loop-i-init invariant-loop decreases-loop
 loop-holds c = refl
 
-add-each-fits : tie.Need-overflow-add-each-fits invariant-loop decreases-loop
+add-each-fits : tie.Need-overflow_add-i invariant-loop decreases-loop
 add-each-fits c = search rules
 
-mul-each-fits : tie.Need-overflow-mul-each-fits invariant-loop decreases-loop
+mul-each-fits : tie.Need-offset_bounds-clades-i invariant-loop decreases-loop
 mul-each-fits c = search rules
 
-shared-slice-read-each-fits : tie.Need-shared-slice-read-each-fits invariant-loop decreases-loop
+shared-slice-read-each-fits : tie.Need-bounds-clades-i invariant-loop decreases-loop
 shared-slice-read-each-fits c = search rules
 
-each-fits-requires : tie.Need-each-fits-requires invariant-loop decreases-loop
+each-fits-requires : tie.Need-each_fits-requires invariant-loop decreases-loop
 each-fits-requires c κs = search rules
 
-returns : tie.Need-returns invariant-loop decreases-loop
+returns : tie.Need-returns-then-not-each_fits invariant-loop decreases-loop
 returns c =
-    let e = c.before.each-fits in
-    let u = c.before.before.before in
-    let l = u.before in
-    fit-not l.before.before.args.clades.now l.loop.i u.loop-test.true (sym e.ensures ∙ not-true e.result c.if1.true) ∙ sym l.loop.invariant
+    let e = c.each_fits in
+    fit-not c.args.clades.now c.loop-i.i c.loop-i-test.true (sym e.ensures ∙ not-true e.result c.if-not-each_fits.true-raw) ∙ sym c.loop-i.invariant
 
-add-i : tie.Need-overflow-add-i invariant-loop decreases-loop
+add-i : tie.Need-overflow_step-i invariant-loop decreases-loop
 add-i c = search rules
 
-loop-less : tie.Need-loop-smaller invariant-loop decreases-loop
-loop-less c = omega (arith, c.before.before.before.loop-test.true)
+loop-less : tie.Need-loop-i-smaller invariant-loop decreases-loop
+loop-less c = omega (arith, c.loop-i-test.true)
 
-loop-again : tie.Need-loop-preserved invariant-loop decreases-loop
+loop-again : tie.Need-loop-i-preserved invariant-loop decreases-loop
 loop-again c =
-    let e = c.before.each-fits in
-    let u = c.before.before.before in
-    let l = u.before in
-    l.loop.invariant ∙ fit_on l.before.before.args.clades.now l.loop.i u.loop-test.true (sym e.ensures ∙ not-false e.result c.if1.false)
+    let e = c.each_fits in
+    c.loop-i.invariant ∙ fit_on c.args.clades.now c.loop-i.i c.loop-i-test.true (sym e.ensures ∙ not-false e.result c.if-not-each_fits.false-raw)
 
-returns-2 : tie.Need-returns-2 invariant-loop decreases-loop
-returns-2 c = let l = c.before in fit-end l.before.before.args.clades.now l.loop.i c.loop-test.false ∙ sym l.loop.invariant
+returns-2 : tie.Need-returns invariant-loop decreases-loop
+returns-2 c = fit-end c.args.clades.now c.loop-i.i c.loop-i-test.false ∙ sym c.loop-i.invariant
 
-pub all-fit-spec : {M : Type 1} → statement M
-all-fit-spec =
+pub all_fit_spec : {M : Type 1} → statement M
+all_fit_spec =
     tie.close
     (tie.spec
     invariant-loop

@@ -12,52 +12,47 @@ use Rattle.families.proofs.RowSteps.{every-end, every-on, every-not}
 use Rattle.rows.proofs.all_parts.Statement.{statement}
 use Rattle.rows.proofs.all_parts.Tie as tie
 
-abbrev invariant-loop : tie.invariant-loop
+abbrev invariant-loop : tie.invariant-loop-i
 invariant-loop clades s i₀ i-end i = every (part_of s) clades ≡ every (part_of s) (drop i clades)
 
-abbrev decreases-loop : tie.decreases-loop
+abbrev decreases-loop : tie.decreases-loop-i
 decreases-loop clades s i₀ i-end i = length clades - i
 
-loop-holds : tie.Need-loop-init invariant-loop decreases-loop
+loop-holds : tie.Need-loop-i-init invariant-loop decreases-loop
 loop-holds c = refl
 
-mul-is-part : tie.Need-overflow-mul-is-part invariant-loop decreases-loop
+mul-is-part : tie.Need-offset_bounds-clades-i invariant-loop decreases-loop
 mul-is-part c = search rules
 
-shared-slice-read-is-part : tie.Need-shared-slice-read-is-part invariant-loop decreases-loop
+shared-slice-read-is-part : tie.Need-bounds-clades-i invariant-loop decreases-loop
 shared-slice-read-is-part c = search rules
 
-is-part-requires : tie.Need-is-part-requires invariant-loop decreases-loop
+is-part-requires : tie.Need-is_part-requires invariant-loop decreases-loop
 is-part-requires c κs = search rules
 
-returns : tie.Need-returns invariant-loop decreases-loop
+returns : tie.Need-returns-then-not-is_part invariant-loop decreases-loop
 returns c =
-    let u = c.before.before.before in
-    let l = u.before in
-    let a = l.before.before.args in
-    every-not a.clades.now l.loop.i (part_of a.s) u.loop-test.true (sym c.before.is-part.ensures ∙ not-true c.before.is-part.result c.if1.true) ∙ sym l.loop.invariant
+    let a = c.args in
+    every-not a.clades.now c.loop-i.i (part_of a.s) c.loop-i-test.true (sym c.is_part.ensures ∙ not-true c.is_part.result c.if-not-is_part.true-raw) ∙ sym c.loop-i.invariant
 
-add-i : tie.Need-overflow-add-i invariant-loop decreases-loop
+add-i : tie.Need-overflow_step-i invariant-loop decreases-loop
 add-i c = search rules
 
-loop-less : tie.Need-loop-smaller invariant-loop decreases-loop
-loop-less c = omega (arith, c.before.before.before.loop-test.true)
+loop-less : tie.Need-loop-i-smaller invariant-loop decreases-loop
+loop-less c = omega (arith, c.loop-i-test.true)
 
-loop-again : tie.Need-loop-preserved invariant-loop decreases-loop
+loop-again : tie.Need-loop-i-preserved invariant-loop decreases-loop
 loop-again c =
-    let u = c.before.before.before in
-    let l = u.before in
-    let a = l.before.before.args in
-    l.loop.invariant ∙ every-on a.clades.now l.loop.i (part_of a.s) u.loop-test.true (sym c.before.is-part.ensures ∙ not-false c.before.is-part.result c.if1.false)
+    let a = c.args in
+    c.loop-i.invariant ∙ every-on a.clades.now c.loop-i.i (part_of a.s) c.loop-i-test.true (sym c.is_part.ensures ∙ not-false c.is_part.result c.if-not-is_part.false-raw)
 
-returns-2 : tie.Need-returns-2 invariant-loop decreases-loop
+returns-2 : tie.Need-returns invariant-loop decreases-loop
 returns-2 c =
-    let l = c.before in
-    let a = l.before.before.args in
-    every-end a.clades.now l.loop.i (part_of a.s) c.loop-test.false ∙ sym l.loop.invariant
+    let a = c.args in
+    every-end a.clades.now c.loop-i.i (part_of a.s) c.loop-i-test.false ∙ sym c.loop-i.invariant
 
-pub all-parts-spec : {M : Type 1} → statement M
-all-parts-spec =
+pub all_parts_spec : {M : Type 1} → statement M
+all_parts_spec =
     tie.close
     (tie.spec
     invariant-loop

@@ -12,52 +12,47 @@ use Rattle.families.proofs.RowSteps.{every-end, every-on, every-not}
 use Rattle.rows.proofs.each_fits.Statement.{statement}
 use Rattle.rows.proofs.each_fits.Tie as tie
 
-abbrev invariant-loop : tie.invariant-loop
+abbrev invariant-loop : tie.invariant-loop-i
 invariant-loop clades k c i₀ i-end i = every (fits c) (drop k clades) ≡ every (fits c) (drop i clades)
 
-abbrev decreases-loop : tie.decreases-loop
+abbrev decreases-loop : tie.decreases-loop-i
 decreases-loop clades k c i₀ i-end i = length clades - i
 
-loop-holds : tie.Need-loop-init invariant-loop decreases-loop
+loop-holds : tie.Need-loop-i-init invariant-loop decreases-loop
 loop-holds c = refl
 
-mul_fit : tie.Need-overflow-mul-fit invariant-loop decreases-loop
+mul_fit : tie.Need-offset_bounds-clades-i invariant-loop decreases-loop
 mul_fit c = search rules
 
-shared-slice-read-fit : tie.Need-shared-slice-read-fit invariant-loop decreases-loop
+shared-slice-read-fit : tie.Need-bounds-clades-i invariant-loop decreases-loop
 shared-slice-read-fit c = search rules
 
 fit-requires : tie.Need-fit-requires invariant-loop decreases-loop
 fit-requires c κs = search rules
 
-returns : tie.Need-returns invariant-loop decreases-loop
+returns : tie.Need-returns-then-not-fit invariant-loop decreases-loop
 returns c =
-    let u = c.before.before.before in
-    let l = u.before in
-    let a = l.before.before.args in
-    every-not a.clades.now l.loop.i (fits a.c) u.loop-test.true (sym c.before.fit.ensures ∙ not-true c.before.fit.result c.if1.true) ∙ sym l.loop.invariant
+    let a = c.args in
+    every-not a.clades.now c.loop-i.i (fits a.c) c.loop-i-test.true (sym c.fit.ensures ∙ not-true c.fit.result c.if-not-fit.true-raw) ∙ sym c.loop-i.invariant
 
-add-i : tie.Need-overflow-add-i invariant-loop decreases-loop
+add-i : tie.Need-overflow_step-i invariant-loop decreases-loop
 add-i c = search rules
 
-loop-less : tie.Need-loop-smaller invariant-loop decreases-loop
-loop-less c = omega (arith, c.before.before.before.loop-test.true)
+loop-less : tie.Need-loop-i-smaller invariant-loop decreases-loop
+loop-less c = omega (arith, c.loop-i-test.true)
 
-loop-again : tie.Need-loop-preserved invariant-loop decreases-loop
+loop-again : tie.Need-loop-i-preserved invariant-loop decreases-loop
 loop-again c =
-    let u = c.before.before.before in
-    let l = u.before in
-    let a = l.before.before.args in
-    l.loop.invariant ∙ every-on a.clades.now l.loop.i (fits a.c) u.loop-test.true (sym c.before.fit.ensures ∙ not-false c.before.fit.result c.if1.false)
+    let a = c.args in
+    c.loop-i.invariant ∙ every-on a.clades.now c.loop-i.i (fits a.c) c.loop-i-test.true (sym c.fit.ensures ∙ not-false c.fit.result c.if-not-fit.false-raw)
 
-returns-2 : tie.Need-returns-2 invariant-loop decreases-loop
+returns-2 : tie.Need-returns invariant-loop decreases-loop
 returns-2 c =
-    let l = c.before in
-    let a = l.before.before.args in
-    every-end a.clades.now l.loop.i (fits a.c) c.loop-test.false ∙ sym l.loop.invariant
+    let a = c.args in
+    every-end a.clades.now c.loop-i.i (fits a.c) c.loop-i-test.false ∙ sym c.loop-i.invariant
 
-pub each-fits-spec : {M : Type 1} → statement M
-each-fits-spec =
+pub each_fits_spec : {M : Type 1} → statement M
+each_fits_spec =
     tie.close
     (tie.spec
     invariant-loop

@@ -6,28 +6,24 @@ use Rattle.families.proofs.RowSteps.{fits-first, fits-second, fits-third}
 use Rattle.rows.proofs.fit.Statement.{statement}
 use Rattle.rows.proofs.fit.Tie as tie
 
-is-inside-requires : tie.Need-is-inside-requires
+is-inside-requires : tie.Need-is_inside-requires
 is-inside-requires c κs = search rules
 
-returns : tie.Need-returns
-returns c = let i = c.before in let a = i.before.args in fits-first a.c a.d (sym i.is-inside.ensures ∙ c.if1.true)
+returns : tie.Need-returns-then-is_inside
+returns c = let a = c.args in fits-first a.c a.d (sym c.is_inside.ensures ∙ c.if-is_inside.true)
 
-is-inside-requires-2 : tie.Need-is-inside-requires-2
+is-inside-requires-2 : tie.Need-is_inside-requires-2
 is-inside-requires-2 c κs = search rules
 
-returns-2 : tie.Need-returns-2
+returns-2 : tie.Need-returns-then-is_inside-2
 returns-2 c =
-    let j = c.before in
-    let i = j.before.before in
-    let a = i.before.args in
-    fits-second a.c a.d (sym i.is-inside.ensures ∙ j.before.if1.false) (sym j.is-inside2.ensures ∙ c.if2.true)
+    let a = c.args in
+    fits-second a.c a.d (sym c.is_inside.ensures ∙ c.if-is_inside.false) (sym c.is_inside-2.ensures ∙ c.if-is_inside-2.true)
 
-returns-3 : tie.Need-returns-3
+returns-3 : tie.Need-returns
 returns-3 c =
-    let j = c.before in
-    let i = j.before.before in
-    let a = i.before.args in
-    fits-third a.c a.d (sym i.is-inside.ensures ∙ j.before.if1.false) (sym j.is-inside2.ensures ∙ c.if2.false)
+    let a = c.args in
+    fits-third a.c a.d (sym c.is_inside.ensures ∙ c.if-is_inside.false) (sym c.is_inside-2.ensures ∙ c.if-is_inside-2.false)
 
 pub fit_spec : {M : Type 1} → statement M
 fit_spec = tie.close (tie.spec is-inside-requires returns is-inside-requires-2 returns-2 returns-3)

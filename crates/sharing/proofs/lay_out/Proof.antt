@@ -23,100 +23,100 @@ record LaidOut (table : Table) (nodes keys : List ℕ) (n : ℕ) : Type 0 where
   keys_long : length keys ≡ entries
   laid : OfTrees table (λ ts. LaidTo ts nodes keys n)
 
-abbrev invariant-loop : tie.invariant-loop
+abbrev invariant-loop : tie.invariant-loop-i
 invariant-loop nodes₀ keys₀ firsts table i₀ i-end nodes keys i = LaidOut table nodes keys i
 
-abbrev decreases-loop : tie.decreases-loop
+abbrev decreases-loop : tie.decreases-loop-i
 decreases-loop nodes₀ keys₀ firsts table i₀ i-end nodes keys i = table.len - i
 
 -- a turn of the loop
 abbrev Turn : Type 0
-Turn = tie.After-shared-slice-known2 invariant-loop decreases-loop
+Turn = tie.In-loop-i invariant-loop decreases-loop
 
 abbrev start : Turn → tie.Start invariant-loop decreases-loop
-start u = u.before.before.before.before.before.before
+start u = u.before.before.before.before.before
 
 abbrev at : Turn → ℕ
-at u = u.before.before.loop.i
+at u = u.loop-i.i
 
 few : (u : Turn) → at u < 160
-few u = let k = (start u).pre.kept.keeps in omega (arith, u.before.loop-test.taken, k.count, k.few)
+few u = let k = u.requires.kept.keeps in omega (arith, u.loop-i-test.true, k.count, k.few)
 
-kept : (u : Turn) → Kept (held_at (start u).args.t3 (at u))
-kept u = kept_at (start u).pre.kept (at u) u.before.loop-test.taken
+kept : (u : Turn) → Kept (held_at u.args.table (at u))
+kept u = kept_at u.requires.kept (at u) u.loop-i-test.true
 
-loop-holds : tie.Need-loop-init invariant-loop decreases-loop
-loop-holds c = let p = c.before.before.before.requires in record { few = omega arith; nodes_long = p.nodes_room; keys_long = p.keys_room; laid = λ ts h. laid_none p.none }
+loop-holds : tie.Need-loop-i-init invariant-loop decreases-loop
+loop-holds c = let p = c.requires in record { few = omega arith; nodes_long = p.nodes_room; keys_long = p.keys_room; laid = λ ts h. laid_none p.none }
 
-mul-if1 : tie.Need-overflow-mul-if1 invariant-loop decreases-loop
-mul-if1 c = let k = c.before.before.before.before.before.requires.kept.keeps in omega (arith, c.loop-test.true, k.count, k.few)
+mul-if1 : tie.Need-offset_bounds-firsts-i invariant-loop decreases-loop
+mul-if1 c = let k = c.requires.kept.keeps in omega (arith, c.loop-i-test.true, k.count, k.few)
 
-shared-slice-read-if1 : tie.Need-shared-slice-read-if1 invariant-loop decreases-loop
-shared-slice-read-if1 c = omega (arith, few c, (start c).requires.lent)
+shared-slice-read-if1 : tie.Need-bounds-firsts-i invariant-loop decreases-loop
+shared-slice-read-if1 c = omega (arith, few c.before, c.requires.lent)
 
-cast-if1 : tie.Need-overflow-cast-if1 invariant-loop decreases-loop
-cast-if1 c = omega (arith, c.shared-slice-known2.given (at c))
+cast-if1 : tie.Need-overflow_cast-firsts invariant-loop decreases-loop
+cast-if1 c = omega (arith, c.shared_slice_known-in-loop-i-1.given (at c.before))
 
-mul-lay-row : tie.Need-overflow-mul-lay-row invariant-loop decreases-loop
-mul-lay-row c = omega (arith, few c.before.before.before)
+mul-lay-row : tie.Need-offset_bounds-table-i invariant-loop decreases-loop
+mul-lay-row c = omega (arith, few c.before.before.before.before)
 
-element-copy-out-lay-row : tie.Need-element-copy-out-lay-row invariant-loop decreases-loop
-element-copy-out-lay-row c = few c.before.before.before
+element-copy-out-lay-row : tie.Need-bounds-table-i invariant-loop decreases-loop
+element-copy-out-lay-row c = few c.before.before.before.before
 
-lay-row-requires : tie.Need-lay-row-requires invariant-loop decreases-loop
+lay-row-requires : tie.Need-lay_row-requires invariant-loop decreases-loop
 lay-row-requires c κs =
-    let u = c.before.before.before.before in
-    let inv = u.before.before.loop.invariant in
+    let u = c.before.before.before.before.before in
+    let inv = c.loop-i.invariant in
     record { kept = kept u; few = few u; nodes_room = inv.nodes_long; keys_room = inv.keys_long }
 
-add-i : tie.Need-overflow-add-i invariant-loop decreases-loop
-add-i c = omega (arith, few c.before)
+add-i : tie.Need-overflow_step-i invariant-loop decreases-loop
+add-i c = omega (arith, few c.before.before)
 
-loop-less : tie.Need-loop-smaller invariant-loop decreases-loop
-loop-less c = omega (arith, c.before.before.loop-test.true)
+loop-less : tie.Need-loop-i-smaller invariant-loop decreases-loop
+loop-less c = omega (arith, c.loop-i-test.true)
 
-loop-again : tie.Need-loop-preserved invariant-loop decreases-loop
+loop-again : tie.Need-loop-i-preserved invariant-loop decreases-loop
 loop-again c =
-    let u = c.before in
-    let inv = u.before.before.loop.invariant in
-    let p = (start u).requires in
-    let inside = u.before.loop-test.true in
+    let u = c.before.before in
+    let inv = c.loop-i.invariant in
+    let p = c.requires in
+    let inside = c.loop-i-test.true in
     ⊎_elim
-    (λ w. rw (w.9, w.10) (record {
+    (λ w. rw (w.nodes-is, w.keys-is) (record {
       few = omega (arith, inside);
-      nodes_long = (w.4.ensures (kept u).topology (kept u).keeps).long ∙ inv.nodes_long;
-      keys_long = (w.4.ensures (kept u).topology (kept u).keeps).noted.long ∙ inv.keys_long;
+      nodes_long = (w.lay_row.ensures (kept u).topology (kept u).keeps).long ∙ inv.nodes_long;
+      keys_long = (w.lay_row.ensures (kept u).topology (kept u).keeps).noted.long ∙ inv.keys_long;
       laid = λ ts h.
           let i-in : at u < length ts = omega (arith, h.count, inside) in
           let K = h.each (at u) i-in in
-          laid-first (sym (p.noted ts h (at u) i-in) ∙ w.0.taken) i-in K.good (w.4.ensures (tree_of ts (at u)) K) (inv.laid ts h);
+          laid-first (sym (p.noted ts h (at u) i-in) ∙ w.if-firsts-i.true) i-in K.good (w.lay_row.ensures (tree_of ts (at u)) K) (inv.laid ts h);
     }))
-    (λ w. rw (w.1, w.2) (record {
+    (λ w. rw (w.nodes-is, w.keys-is) (record {
       few = omega (arith, inside);
       nodes_long = inv.nodes_long;
       keys_long = inv.keys_long;
-      laid = λ ts h. let i-in : at u < length ts = omega (arith, h.count, inside) in laid-copy (λ e. w.0.left (p.noted ts h (at u) i-in ∙ e)) (inv.laid ts h);
+      laid = λ ts h. let i-in : at u < length ts = omega (arith, h.count, inside) in laid-copy (λ e. w.if-firsts-i.false (p.noted ts h (at u) i-in ∙ e)) (inv.laid ts h);
     }))
-    c.if1.branch
+    c.if-firsts-i.branch-raw
 
-same_length : tie.Need-same-length invariant-loop decreases-loop
-same_length c = c.before.loop.invariant.nodes_long ∙ sym c.before.before.before.before.before.requires.nodes_room
+same_length : tie.Need-shape_of-nodes invariant-loop decreases-loop
+same_length c = c.loop-i.invariant.nodes_long ∙ sym c.requires.nodes_room
 
-same-length-2 : tie.Need-same-length-2 invariant-loop decreases-loop
-same-length-2 c = c.before.loop.invariant.keys_long ∙ sym c.before.before.before.before.before.requires.keys_room
+same-length-2 : tie.Need-shape_of-keys invariant-loop decreases-loop
+same-length-2 c = c.loop-i.invariant.keys_long ∙ sym c.requires.keys_room
 
 returns : tie.Need-returns invariant-loop decreases-loop
 returns c ts h =
-    let inv = c.before.loop.invariant in
+    let inv = c.loop-i.invariant in
     let L = inv.laid ts h in
-    let all = c.loop-test.false in
+    let all = c.loop-i-test.false in
     record {
       rows = record { good = keeps-good h; few = h.few; long = inv.nodes_long; bytes = λ i l f. L.rows i (omega (arith, h.count)) f };
       keyed = record { own = λ e E. L.own e E (omega (arith, E.inside, h.count)); others = L.others };
     }
 
-pub lay-out-spec : {M : Type 1} → statement M
-lay-out-spec =
+pub lay_out_spec : {M : Type 1} → statement M
+lay_out_spec =
     tie.close
     (tie.spec
     invariant-loop

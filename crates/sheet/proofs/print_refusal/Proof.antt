@@ -12,18 +12,16 @@ use Rattle.sheet.proofs.print_refusal.Tie as tie
 wide-requires : tie.Need-wide-requires
 wide-requires c κs = search rules
 
-write-refusal-requires : tie.Need-write-refusal-requires
+write-refusal-requires : tie.Need-write_refusal-requires
 write-refusal-requires c κs =
-    let start = c.before.before.before in
-    omega (arith, ap (λ (n : ℕ). length (refusal_line n start.args.x.place)) c.wide.ensures, start.requires)
+    omega (arith, ap (λ (n : ℕ). length (refusal_line n c.args.x.place)) c.wide.ensures, c.requires)
 
-same_length : tie.Need-same-length
+same_length : tie.Need-shape_of-out
 same_length c = search rules
 
 returns : tie.Need-returns
 returns c =
-    let w = c.before.before in
-    rw w.before.wide.ensures at w.write-refusal.ensures
+    rw c.wide.ensures at c.write_refusal.ensures
 
-pub print-refusal-spec : {M : Type 1} → statement M
-print-refusal-spec = tie.close (tie.spec wide-requires write-refusal-requires same_length returns)
+pub print_refusal_spec : {M : Type 1} → statement M
+print_refusal_spec = tie.close (tie.spec wide-requires write-refusal-requires same_length returns)

@@ -11,46 +11,46 @@ use Rattle.slot_check.proofs.Slots.{full-none, holds-some, full-more, full-zeros
 use Rattle.slot_check.proofs.labels_of.Statement.{statement}
 use Rattle.slot_check.proofs.labels_of.Tie as tie
 
-labels-in-order-requires : tie.Need-labels-in-order-requires
+labels-in-order-requires : tie.Need-labels_in_order-labels-requires
 labels-in-order-requires c κs = search rules
 
-returns : tie.Need-returns
-returns c = full-none c.before.labels-in-order.ensures c.if1.true
+returns : tie.Need-returns-then-labels-eq0
+returns c = full-none c.labels_in_order-labels.ensures c.if-labels-eq0.true
 
 width-requires : tie.Need-width-requires
-width-requires c κs = holds-some c.before.labels-in-order.ensures c.if1.false
+width-requires c κs = holds-some c.labels_in_order-labels.ensures c.if-labels-eq0.false
 
-all-zero-requires : tie.Need-all-zero-requires
+all-zero-requires : tie.Need-all_zero-requires
 all-zero-requires c κs = search rules
 
 -- a tree is held, and it is known whether there are zeros behind it
-abbrev slot : tie.After-all-zero → List ℕ
-slot z = z.before.before.before.before.before.args.slot.now
+abbrev slot : tie.After-all_zero → List ℕ
+slot z = z.args.slot.now
 
-abbrev ZerosBehind : tie.After-all-zero → Type 0
-ZerosBehind z = Zeros (slot z) z.before.width.result max_nodes
+abbrev ZerosBehind : tie.After-all_zero → Type 0
+ZerosBehind z = Zeros (slot z) z.width.result max_nodes
 
-behind-said : (z : tie.After-all-zero) → Says z.all-zero.result (ZerosBehind z)
-behind-said z = z.all-zero.ensures
+behind-said : (z : tie.After-all_zero) → Says z.all_zero.result (ZerosBehind z)
+behind-said z = z.all_zero.ensures
 
-returns-2 : tie.Need-returns-2
+returns-2 : tie.Need-returns-then-not-all_zero
 returns-2 c =
     let z = c.before in
     let w = z.before in
     let n = w.before in
-    let more = denied (ZerosBehind z) (not-true z.all-zero.result c.if2.true) (behind-said z) in
-    full-more n.before.labels-in-order.ensures n.if1.false w.width.result w.width.ensures more
+    let more = denied (ZerosBehind z) (not-true z.all_zero.result c.if-not-all_zero.true-raw) (behind-said z) in
+    full-more n.labels_in_order-labels.ensures n.if-labels-eq0.false w.width.result w.width.ensures more
 
-returns-3 : tie.Need-returns-3
+returns-3 : tie.Need-returns
 returns-3 c =
     let z = c.before in
     let w = z.before in
     let n = w.before in
-    let zeros = said (ZerosBehind z) (not-false z.all-zero.result c.if2.false) (behind-said z) in
-    full-zeros n.before.labels-in-order.ensures n.if1.false w.width.result w.width.ensures n.before.before.before.requires zeros
+    let zeros = said (ZerosBehind z) (not-false z.all_zero.result c.if-not-all_zero.false-raw) (behind-said z) in
+    full-zeros n.labels_in_order-labels.ensures n.if-labels-eq0.false w.width.result w.width.ensures n.requires zeros
 
-pub labels-of-spec : {M : Type 1} → statement M
-labels-of-spec =
+pub labels_of_spec : {M : Type 1} → statement M
+labels_of_spec =
     tie.close
     (tie.spec
     labels-in-order-requires

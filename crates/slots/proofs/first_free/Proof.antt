@@ -15,50 +15,50 @@ use Rattle.slots.proofs.Walks.{free-here, free-behind, free-past}
 use Rattle.slots.proofs.first_free.Statement.{statement}
 use Rattle.slots.proofs.first_free.Tie as tie
 
-abbrev invariant-loop : tie.invariant-loop
+abbrev invariant-loop : tie.invariant-loop-x
 invariant-loop memory x₀ x = (x ≤ max_trees) × ((hs : List Slot) → Shelved hs memory → x + smallest_free (drop x hs) ≡ smallest_free hs)
 
-abbrev decreases-loop : tie.decreases-loop
+abbrev decreases-loop : tie.decreases-loop-x
 decreases-loop memory x₀ x = max_trees - x
 
-loop-holds : tie.Need-loop-init invariant-loop decreases-loop
+loop-holds : tie.Need-loop-x-init invariant-loop decreases-loop
 loop-holds c = (omega arith, λ hs S. omega arith)
 
-is-free-requires : tie.Need-is-free-requires invariant-loop decreases-loop
-is-free-requires c κs = (c.before.before.before.requires, c.loop-test.true)
+is-free-requires : tie.Need-is_free-requires invariant-loop decreases-loop
+is-free-requires c κs = (c.requires, c.loop-x-test.true)
 
-add-x : tie.Need-overflow-add-x invariant-loop decreases-loop
-add-x c = omega (arith, c.before.before.loop-test.true)
+add-x : tie.Need-overflow_add-x invariant-loop decreases-loop
+add-x c = omega (arith, c.loop-x-test.true)
 
-loop-less : tie.Need-loop-smaller invariant-loop decreases-loop
-loop-less c = omega (arith, c.before.before.loop-test.true)
+loop-less : tie.Need-loop-x-smaller invariant-loop decreases-loop
+loop-less c = omega (arith, c.loop-x-test.true)
 
-loop-again : tie.Need-loop-preserved invariant-loop decreases-loop
+loop-again : tie.Need-loop-x-preserved invariant-loop decreases-loop
 loop-again c =
     let turn = c.before.before in
-    let l = turn.before.loop in
-    let r = c.before.is_free in (
-      omega (arith, turn.loop-test.true),
+    let l = turn.loop-x in
+    let r = c.is_free in (
+      omega (arith, turn.loop-x-test.true),
       λ hs S.
-          let (t, e) = some-tree (slot_at hs l.x) (denied (slot_at hs l.x ≡ free) (not-true r.result c.if1.true) (r.ensures hs S)) in
-          omega (arith, l.invariant.1 hs S, free-behind hs l.x (omega (arith, S.trees.many, turn.loop-test.true)) e),
+          let (t, e) = some-tree (slot_at hs l.x) (denied (slot_at hs l.x ≡ free) (not-true r.result c.if-not-is_free.true-raw) (r.ensures hs S)) in
+          omega (arith, l.invariant.1 hs S, free-behind hs l.x (omega (arith, S.trees.many, turn.loop-x-test.true)) e),
     )
 
-returns : tie.Need-returns invariant-loop decreases-loop
+returns : tie.Need-returns-else-not-is_free invariant-loop decreases-loop
 returns c hs S =
     let turn = c.before.before in
-    let l = turn.before.loop in
-    let r = c.before.is_free in
-    let e = said (slot_at hs l.x ≡ free) (not-false r.result c.if1.false) (r.ensures hs S) in
-    omega (arith, l.invariant.1 hs S, free-here hs l.x (omega (arith, S.trees.many, turn.loop-test.true)) e)
+    let l = turn.loop-x in
+    let r = c.is_free in
+    let e = said (slot_at hs l.x ≡ free) (not-false r.result c.if-not-is_free.false-raw) (r.ensures hs S) in
+    omega (arith, l.invariant.1 hs S, free-here hs l.x (omega (arith, S.trees.many, turn.loop-x-test.true)) e)
 
-returns-2 : tie.Need-returns-2 invariant-loop decreases-loop
+returns-2 : tie.Need-returns-after-loop-x invariant-loop decreases-loop
 returns-2 c hs S =
-    let l = c.before.loop in
-    omega (arith, l.invariant.1 hs S, free-past hs l.x (omega (arith, S.trees.many, c.loop-test.false)))
+    let l = c.loop-x in
+    omega (arith, l.invariant.1 hs S, free-past hs l.x (omega (arith, S.trees.many, c.loop-x-test.false)))
 
-pub first-free-spec : {M : Type 1} → statement M
-first-free-spec =
+pub first_free_spec : {M : Type 1} → statement M
+first_free_spec =
     tie.close
     (tie.spec
     invariant-loop

@@ -9,10 +9,10 @@ use Rattle.slots.proofs.Shelving.{slot-copied}
 use Rattle.slots.proofs.tree_at.Statement.{statement}
 use Rattle.slots.proofs.tree_at.Tie as tie
 
-slice-aggregate-copy : tie.Need-slice-aggregate-copy
+slice-aggregate-copy : tie.Need-slice_bounds-copy-end
 slice-aggregate-copy c = search rules
 
-mul-copy : tie.Need-overflow-mul-copy
+mul-copy : tie.Need-overflow_mul-x
 mul-copy c = search rules
 
 copy-requires : tie.Need-copy-requires
@@ -21,9 +21,9 @@ copy-requires c κs = search rules
 returns : tie.Need-returns
 returns c =
     let s = c.before.before.before.before in
-    let copy = c.before.copy in
-    let same = slot-copied s.args.memory.now copy.new.0 s.args.x _ s.requires.0 s.requires.1 copy.ensures in
+    let copy = c.copy in
+    let same = slot-copied s.args.memory.now copy.new.out s.args.x _ s.requires.0 s.requires.1 copy.ensures in
     ap (λ (node : List ℕ). record { node = node; kind = Rooted }) same
 
-pub tree-at-spec : {M : Type 1} → statement M
-tree-at-spec = tie.close (tie.spec slice-aggregate-copy mul-copy copy-requires returns)
+pub tree_at_spec : {M : Type 1} → statement M
+tree_at_spec = tie.close (tie.spec slice-aggregate-copy mul-copy copy-requires returns)

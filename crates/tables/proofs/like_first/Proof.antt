@@ -16,23 +16,23 @@ not_none h = omega (arith, h)
 untaken-requires : tie.Need-untaken-requires
 untaken-requires c κs = search rules
 
-returns : tie.Need-returns
+returns : tie.Need-returns-then-table-eq0
 returns c xs x h k =
-    let a = c.before.before.args in
-    like-none (takes_of a.takes) xs x a.t1 a.tree c.untaken.result h k c.before.if1.true c.untaken.ensures
+    let a = c.args in
+    like-none (takes_of a.takes) xs x a.table a.tree c.untaken.result h k c.if-table-eq0.true c.untaken.ensures
 
-element-copy-out-unlike : tie.Need-element-copy-out-unlike
+element-copy-out-unlike : tie.Need-bounds-table-0
 element-copy-out-unlike c = search rules
 
 unlike-requires : tie.Need-unlike-requires
 unlike-requires c κs =
-    let p = c.before.before.requires in
-    (kept_at p.0 0 (not_none c.before.if1.false), p.1)
+    let p = c.requires in
+    (kept_at p.0 0 (not_none c.if-table-eq0.false), p.1)
 
-returns-2 : tie.Need-returns-2
+returns-2 : tie.Need-returns
 returns-2 c xs x h k =
-    let a = c.before.before.before.args in
-    like-some (takes_of a.takes) xs x a.t1 _ h c.before.before.if1.false (λ first f. c.unlike.ensures first x f k)
+    let a = c.args in
+    like-some (takes_of a.takes) xs x a.table _ h c.if-table-eq0.false (λ first f. c.unlike.ensures first x f k)
 
-pub like-first-spec : {M : Type 1} → statement M
-like-first-spec = tie.close (tie.spec untaken-requires returns element-copy-out-unlike unlike-requires returns-2)
+pub like_first_spec : {M : Type 1} → statement M
+like_first_spec = tie.close (tie.spec untaken-requires returns element-copy-out-unlike unlike-requires returns-2)

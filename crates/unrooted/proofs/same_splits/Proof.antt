@@ -7,51 +7,49 @@ use Rattle.unrooted.proofs.Round.{leaf-fits, other-leaf, splits-says}
 use Rattle.unrooted.proofs.same_splits.Statement.{statement}
 use Rattle.unrooted.proofs.same_splits.Tie as tie
 
-last-fork-requires : tie.Need-last-fork-requires
+last-fork-requires : tie.Need-last_fork-p-requires
 last-fork-requires c κs = search rules
 
-last-fork-requires-2 : tie.Need-last-fork-requires-2
+last-fork-requires-2 : tie.Need-last_fork-q-requires
 last-fork-requires-2 c κs = search rules
 
-abbrev start : tie.After-last-fork2 → tie.Start
+abbrev start : tie.After-last_fork-q → tie.Start
 start c = c.before.before.before.before
 
 -- what hangs from the two forks
-rest-x : (c : tie.After-last-fork2) → TurnedAt (start c).args.x.now (start c).args.k c.before.last-fork.result
-rest-x c = (c.before.last-fork.ensures (start c).requires.0).rest
+rest-x : (c : tie.After-last_fork-q) → TurnedAt c.args.x.now c.args.k c.last_fork-p.result
+rest-x c = (c.last_fork-p.ensures c.requires.0).rest
 
-rest-y : (c : tie.After-last-fork2) → TurnedAt (start c).args.y.now (start c).args.k c.last-fork2.result
-rest-y c = (c.last-fork2.ensures (start c).requires.1).rest
+rest-y : (c : tie.After-last_fork-q) → TurnedAt c.args.y.now c.args.k c.last_fork-q.result
+rest-y c = (c.last_fork-q.ensures c.requires.1).rest
 
-add-if1 : tie.Need-overflow-add-if1
+add-if1 : tie.Need-overflow_add-p
 add-if1 c = omega (arith, leaf-fits (rest-x c))
 
-shared-slice-read-if1 : tie.Need-shared-slice-read-if1
+shared-slice-read-if1 : tie.Need-bounds-x-p
 shared-slice-read-if1 c = leaf-fits (rest-x c.before)
 
-add-if1-2 : tie.Need-overflow-add-if1-2
+add-if1-2 : tie.Need-overflow_add-q
 add-if1-2 c = omega (arith, leaf-fits (rest-y c.before))
 
-shared-slice-read-if1-2 : tie.Need-shared-slice-read-if1-2
+shared-slice-read-if1-2 : tie.Need-bounds-y-q
 shared-slice-read-if1-2 c = leaf-fits (rest-y c.before.before)
 
-returns : tie.Need-returns
+returns : tie.Need-returns-then-x-p
 returns c t u =
-    let p = c.before.before.before in
-    other-leaf t u (p.before.last-fork.ensures t) (p.last-fork2.ensures u) c.if1.true
+    other-leaf t u (c.last_fork-p.ensures t) (c.last_fork-q.ensures u) c.if-x-p.true
 
-same-turned-requires : tie.Need-same-turned-requires
+same-turned-requires : tie.Need-same_turned-requires
 same-turned-requires c κs = let p = c.before.before.before in (rest-x p, rest-y p)
 
-returns-2 : tie.Need-returns-2
+returns-2 : tie.Need-returns
 returns-2 c t u =
-    let p = c.before.before.before.before in
-    let e = p.before.last-fork.ensures t in
-    let f = p.last-fork2.ensures u in
-    splits-says t u e f c.before.if1.false c.same-turned.result (c.same-turned.ensures e.rest f.rest)
+    let e = c.last_fork-p.ensures t in
+    let f = c.last_fork-q.ensures u in
+    splits-says t u e f c.if-x-p.false c.same_turned.result (c.same_turned.ensures e.rest f.rest)
 
-pub same-splits-spec : {M : Type 1} → statement M
-same-splits-spec =
+pub same_splits_spec : {M : Type 1} → statement M
+same_splits_spec =
     tie.close
     (tie.spec
     last-fork-requires

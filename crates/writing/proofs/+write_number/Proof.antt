@@ -25,69 +25,69 @@ module _ (t : ℕ) where
   abbrev claims : lts.Claims
   claims = (and 1 kinds.ps (falls 1 kinds.ps ◌<◌ μ t) own.Pre, own.Post)
 
-  cast-out : lts.Need-overflow-cast-out claims here own.Post
+  cast-out : lts.Need-overflow_cast-out claims here own.Post
   cast-out c = omega arith
 
-  add-out : lts.Need-overflow-add-out claims here own.Post
+  add-out : lts.Need-overflow_add-out claims here own.Post
   add-out c = omega arith
 
-  slice-write-out : lts.Need-slice-write-out claims here own.Post
-  slice-write-out c = omega (arith, c.before.before.requires.1, digits-some c.before.before.args.n)
+  slice-write-out : lts.Need-bounds-out-at claims here own.Post
+  slice-write-out c = omega (arith, c.requires.1, digits-some c.args.n)
 
-  add-result : lts.Need-overflow-add-result claims here own.Post
-  add-result c = omega (arith, c.before.before.requires.1, digits-some c.before.before.args.n)
+  add-result : lts.Need-overflow_add-result claims here own.Post
+  add-result c = omega (arith, c.requires.1, digits-some c.args.n)
 
-  same_length : lts.Need-same-length claims here own.Post
+  same_length : lts.Need-shape_of-out-then-n-le9 claims here own.Post
   same_length c = simp length-set
 
-  returns : lts.Need-returns claims here own.Post
-  returns c = wrote-digit c.before.before.args.n c.if1.true c.before.before.args.out.now c.before.before.args.at
+  returns : lts.Need-returns-then-n-le9 claims here own.Post
+  returns c = wrote-digit c.args.n c.if-n-le9.true c.args.out.now c.args.at
 
   -- the number has more than one digit, and there is room for all
   abbrev More : Type 0
-  More = lts.Else1 claims here own.Post
+  More = lts.Else-n-le9 claims here own.Post
 
   abbrev start : More → lts.Start claims here own.Post
   start m = m.before.before
 
-  room_of : (m : More) → (start m).args.at + (length (digits ((start m).args.n / 10)) + 1) ≤ length (start m).args.out.now
-  room_of m = omega (arith, (start m).pre.1, length_digits (start m).args.n m.if1.left)
+  room_of : (m : More) → m.args.at + (length (digits (m.args.n / 10)) + 1) ≤ length m.args.out.now
+  room_of m = omega (arith, m.requires.1, length_digits m.args.n m.if-n-le9.false)
 
-  write-number-requires : lts.Need-write-number-requires claims here own.Post
-  write-number-requires c κs = (omega (arith, (start c.before).pre.0, c.before.if1.false), omega (arith, room_of c.before))
+  write-number-requires : lts.Need-write_number-last-requires claims here own.Post
+  write-number-requires c κs = (omega (arith, c.requires.0, c.if-n-le9.false), omega (arith, room_of c.before))
 
   -- those before the last are written
   abbrev Before : Type 0
-  Before = lts.After-write-number claims here own.Post
+  Before = lts.After-write_number-last claims here own.Post
 
   abbrev more : Before → More
   more o = o.before.before
 
-  last_fits : (o : Before) → o.write-number.result < length o.write-number.last.0
-  last_fits o = omega (arith, room_of (more o), o.write-number.ensures.behind, wrote-length o.write-number.ensures)
+  last_fits : (o : Before) → o.write_number-last.result < length o.write_number-last.new.out
+  last_fits o = omega (arith, room_of (more o), o.write_number-last.ensures.behind, wrote-length o.write_number-last.ensures)
 
-  cast-out-2 : lts.Need-overflow-cast-out-2 claims here own.Post
+  cast-out-2 : lts.Need-overflow_cast-out-2 claims here own.Post
   cast-out-2 c = omega arith
 
-  add-out-2 : lts.Need-overflow-add-out-2 claims here own.Post
+  add-out-2 : lts.Need-overflow_add-out-2 claims here own.Post
   add-out-2 c = omega arith
 
-  slice-write-out-2 : lts.Need-slice-write-out-2 claims here own.Post
+  slice-write-out-2 : lts.Need-bounds-out-last claims here own.Post
   slice-write-out-2 c = last_fits c.before.before
 
-  add-result-2 : lts.Need-overflow-add-result-2 claims here own.Post
+  add-result-2 : lts.Need-overflow_add-result-2 claims here own.Post
   add-result-2 c = omega (arith, last_fits c.before.before)
 
-  same-length-2 : lts.Need-same-length-2 claims here own.Post
-  same-length-2 c = simp length-set (wrote-length c.before.before.write-number.ensures)
+  same-length-2 : lts.Need-shape_of-out claims here own.Post
+  same-length-2 c = simp length-set (wrote-length c.write_number-last.ensures)
 
-  returns-2 : lts.Need-returns-2 claims here own.Post
+  returns-2 : lts.Need-returns claims here own.Post
   returns-2 c =
       let o = c.before.before in
-      wrote-digits (start (more o)).args.n (more o).if1.false o.write-number.ensures
+      wrote-digits o.args.n o.if-n-le9.false o.write_number-last.ensures
 
-pub +write-number-spec : {M : Type 1} → statement M
-+write-number-spec = close μ λ t. lts.spec (claims t) (here t) own.Post
+pub +write_number_spec : {M : Type 1} → statement M
++write_number_spec = close μ λ t. lts.spec (claims t) (here t) own.Post
     (cast-out t)
     (add-out t)
     (slice-write-out t)

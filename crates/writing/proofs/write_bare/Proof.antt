@@ -15,34 +15,34 @@ use Rattle.writing.proofs.Unrooted.{leaf-bare, bare-room, wrote-bare}
 use Rattle.writing.proofs.write_bare.Statement.{statement}
 use Rattle.writing.proofs.write_bare.Tie as tie
 
-shared-slice-read-if1 : tie.Need-shared-slice-read-if1
-shared-slice-read-if1 c = within c.before.before.before.requires.holds
+shared-slice-read-if1 : tie.Need-bounds-n-k
+shared-slice-read-if1 c = within c.requires.holds
 
 -- the node is a leaf
-write-node-requires : tie.Need-write-node-requires
+write-node-requires : tie.Need-write_node-requires
 write-node-requires c κs =
-    let p = c.before.before.before.before.before.requires in
-    record { tree = p.tree; holds = p.holds; room = omega (arith, p.room, ap length (leaf-bare p.holds c.before.if1.true)) }
+    let p = c.requires in
+    record { tree = p.tree; holds = p.holds; room = omega (arith, p.room, ap length (leaf-bare p.holds c.if-n-k-le-FORK.true)) }
 
-same_length : tie.Need-same-length
+same_length : tie.Need-shape_of-out-then-n-k-le-FORK
 same_length c = search rules
 
-returns : tie.Need-returns
+returns : tie.Need-returns-then-n-k-le-FORK
 returns c =
     let o = c.before.before in
-    λ t h. rw (leaf-bare h o.before.before.if1.true) (o.write-node.ensures t h)
+    λ t h. rw (leaf-bare h o.if-n-k-le-FORK.true) (o.write_node.ensures t h)
 
 -- it is a fork, and there is room for both its children
-abbrev start : tie.Else1 → tie.Start
+abbrev start : tie.Else-n-k-le-FORK → tie.Start
 start c = c.before.before.before.before
 
-fork-of : (c : tie.Else1) → ForkAt (start c).args.n.now (start c).args.k (start c).requires.tree
-fork-of c = forked (start c).requires.holds c.if1.false
+fork-of : (c : tie.Else-n-k-le-FORK) → ForkAt c.args.n.now c.args.k c.requires.tree
+fork-of c = forked c.requires.holds c.if-n-k-le-FORK.false
 
-room_of : (c : tie.Else1) → (start c).args.at + (length (write (fork-of c).first) + 1 + length (write (fork-of c).second)) ≤ length (start c).args.out.now
-room_of c = omega (arith, (start c).requires.room, bare-room (fork-of c))
+room_of : (c : tie.Else-n-k-le-FORK) → c.args.at + (length (write (fork-of c).first) + 1 + length (write (fork-of c).second)) ≤ length c.args.out.now
+room_of c = omega (arith, c.requires.room, bare-room (fork-of c))
 
-add-first : tie.Need-overflow-add-first
+add-first : tie.Need-overflow_add-first
 add-first c = omega (arith, within (fork-of c).holds-first)
 
 width-requires : tie.Need-width-requires
@@ -54,23 +54,23 @@ second-of w =
     let f = fork-of w.before in
     second_at f w.width.result (w.width.ensures f.first f.holds-first)
 
-add-second : tie.Need-overflow-add-second
+add-second : tie.Need-overflow_add-second
 add-second c = omega (arith, within (second-of c))
 
-write-part-requires : tie.Need-write-part-requires
+write-part-requires : tie.Need-write_part-next-requires
 write-part-requires c κs =
     let f = fork-of c.before.before in
     record { tree = f.first; holds = f.holds-first; room = omega (arith, room_of c.before.before) }
 
 -- the first child is written
-abbrev wide : tie.After-write-part → tie.After-width
+abbrev wide : tie.After-write_part-next → tie.After-width
 wide o = o.before.before
 
-wrote-first : (o : tie.After-write-part)
-    → let s = start (wide o).before in Wrote (write (fork-of (wide o).before).first ++ (44 ∷ [])) s.args.out.now o.write-part.new.0 s.args.at o.write-part.result
-wrote-first o = let f = fork-of (wide o).before in o.write-part.ensures f.first f.holds-first
+wrote-first : (o : tie.After-write_part-next)
+    → let s = start (wide o).before in Wrote (write (fork-of (wide o).before).first ++ (44 ∷ [])) s.args.out.now o.write_part-next.new.out s.args.at o.write_part-next.result
+wrote-first o = let f = fork-of (wide o).before in o.write_part-next.ensures f.first f.holds-first
 
-write-node-requires-2 : tie.Need-write-node-requires-2
+write-node-requires-2 : tie.Need-write_node-requires-2
 write-node-requires-2 c κs =
     let o = c.before.before.before in
     let f = fork-of (wide o).before in
@@ -81,18 +81,18 @@ write-node-requires-2 c κs =
       room = omega (arith, room_of (wide o).before, w.behind, length-append (write f.first) (44 ∷ []), wrote-length w);
     }
 
-same-length-2 : tie.Need-same-length-2
+same-length-2 : tie.Need-shape_of-out
 same-length-2 c = search rules
 
-returns-2 : tie.Need-returns-2
+returns-2 : tie.Need-returns
 returns-2 c =
     let n = c.before.before in
     let o = n.before.before.before.before in
     let f = fork-of (wide o).before in
-    wrote-bare f (wrote-first o) (n.write-node2.ensures f.second (second-of (wide o)))
+    wrote-bare f (wrote-first o) (n.write_node-2.ensures f.second (second-of (wide o)))
 
-pub write-bare-spec : {M : Type 1} → statement M
-write-bare-spec =
+pub write_bare_spec : {M : Type 1} → statement M
+write_bare_spec =
     tie.close
     (tie.spec
     shared-slice-read-if1

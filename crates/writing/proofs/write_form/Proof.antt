@@ -19,32 +19,32 @@ room_of s =
     let x = s.requires.kinded in
     omega (arith, s.requires.room, ap length (form-text s.requires.keeps), length-append (write_as x.kind (canon x.tree)) (59 ∷ []))
 
-write-tree-requires : tie.Need-write-tree-requires
+write-tree-requires : tie.Need-write_tree-end-requires
 write-tree-requires c κs =
     let s = c.before.before in
     record { kinded = s.requires.kinded; keeps = s.requires.keeps; room = omega (arith, room_of s) }
 
 -- the place for the semicolon is inside
-room-end : (o : tie.After-write-tree) → o.write-tree.result + 1 ≤ length o.write-tree.new.0
+room-end : (o : tie.After-write_tree-end) → o.write_tree-end.result + 1 ≤ length o.write_tree-end.new.out
 room-end o =
     let s = o.before.before.before in
-    let w = o.write-tree.ensures s.requires.kinded s.requires.keeps in
+    let w = o.write_tree-end.ensures s.requires.kinded s.requires.keeps in
     omega (arith, room_of s, w.behind, wrote-length w)
 
-slice-write-out : tie.Need-slice-write-out
+slice-write-out : tie.Need-bounds-out-end
 slice-write-out c = omega (arith, room-end c.before.before)
 
-add-result : tie.Need-overflow-add-result
+add-result : tie.Need-overflow_add-result
 add-result c = omega (arith, room-end c.before.before)
 
-same_length : tie.Need-same-length
+same_length : tie.Need-shape_of-out
 same_length c = search rules
 
 returns : tie.Need-returns
 returns c =
     let o = c.before.before in
-    λ x k. rw (form-text k) (wrote-more (o.write-tree.ensures x k) (wrote_one o.write-tree.new.0 o.write-tree.result 59))
+    λ x k. rw (form-text k) (wrote-more (o.write_tree-end.ensures x k) (wrote_one o.write_tree-end.new.out o.write_tree-end.result 59))
 
-pub write-form-spec : {M : Type 1} → statement M
-write-form-spec =
+pub write_form_spec : {M : Type 1} → statement M
+write_form_spec =
     tie.close (tie.spec write-tree-requires slice-write-out add-result same_length returns)

@@ -11,55 +11,54 @@ use Rattle.sharing.proofs.Sharing.{sharing-shows}
 use Rattle.links.proofs.forests.link_moves.Statement.{statement}
 use Rattle.links.proofs.forests.link_moves.Tie as tie
 
-slice-aggregate-lay-out : tie.Need-slice-aggregate-lay-out
+slice-aggregate-lay-out : tie.Need-slice_bounds-lay_out-end
 slice-aggregate-lay-out c = search rules
 
-slice-aggregate-lay-out-2 : tie.Need-slice-aggregate-lay-out-2
+slice-aggregate-lay-out-2 : tie.Need-slice_bounds-lay_out-end-2
 slice-aggregate-lay-out-2 c = search rules
 
-lay-out-requires : tie.Need-lay-out-requires
+lay-out-requires : tie.Need-lay_out-requires
 lay-out-requires c κs =
-    let p = c.before.before.before.requires.0 in
+    let p = c.requires.0 in
     record { kept = p.kept; noted = p.noted; lent = p.lent; nodes_room = length-replicate {A = ℕ} entries 0; keys_room = length-replicate {A = ℕ} entries 0; none = zeros-at entries }
 
-mul-end : tie.Need-overflow-mul-end
+mul-end : tie.Need-overflow_mul-end
 mul-end c = search rules
 
 -- the entries of a table's trees
 few : (c : tie.Start) → c.args.table.len * 128 ≤ 20480
 few c = let k = c.requires.0.kept.keeps in omega (arith, k.count, k.few)
 
-note-same-requires : tie.Need-note-same-requires
+note-same-requires : tie.Need-note_same-requires
 note-same-requires c κs = search rules
 
-slice-aggregate-link-sharing : tie.Need-slice-aggregate-link-sharing
+slice-aggregate-link-sharing : tie.Need-slice_bounds-link_sharing-end
 slice-aggregate-link-sharing c = search rules
 
-link-sharing-requires : tie.Need-link-sharing-requires
+link-sharing-requires : tie.Need-link_sharing-requires
 link-sharing-requires c κs =
     let laid = c.before.before.before.before.before.before.before.before.before.before in
     let start = laid.before.before.before.before in
-    let k = start.requires.0.kept in
+    let k = c.requires.0.kept in
     record {
       trees = k.trees;
-      laid = laid.lay-out.ensures k.trees k.keeps;
-      found = c.before.before.before.before.note-same.ensures;
+      laid = c.lay_out.ensures k.trees k.keeps;
+      found = c.note_same.ensures;
       few = few start;
-      bytes = start.requires.0.bytes;
-      empty = start.requires.1;
+      bytes = c.requires.0.bytes;
+      empty = c.requires.1;
     }
 
 returns : tie.Need-returns
 returns c =
-    let laid = c.before.before.before.before.before.before.before.before.before.before.before in
-    let k = laid.before.before.before.before.requires.0.kept in
-    let shares = c.link-sharing.ensures in (
-      λ ts h. sharing-shows (keeps-good h) h.few (rw h.count at (shares ts (laid.lay-out.ensures ts h))),
-      (shares k.trees (laid.lay-out.ensures k.trees k.keeps)).long,
+    let k = c.requires.0.kept in
+    let shares = c.link_sharing.ensures in (
+      λ ts h. sharing-shows (keeps-good h) h.few (rw h.count at (shares ts (c.lay_out.ensures ts h))),
+      (shares k.trees (c.lay_out.ensures k.trees k.keeps)).long,
     )
 
-pub link-moves-spec : {M : Type 1} → statement M
-link-moves-spec =
+pub link_moves_spec : {M : Type 1} → statement M
+link_moves_spec =
     tie.close
     (tie.spec
     slice-aggregate-lay-out

@@ -36,16 +36,16 @@ record LinkedTo (test : Test) (table : Table) (links₀ : List ℕ) (place : ℕ
 abbrev Onward : Test → Table → ℕ → List ℕ → ℕ → List ℕ → Type 0
 Onward test table place links place' links' = (links₀ : List ℕ) → LinkedTo test table links₀ place links → LinkedTo test table links₀ place' links'
 
-abbrev invariant-loop2 : tie.invariant-loop2
+abbrev invariant-loop2 : tie.invariant-loop-j
 invariant-loop2 row firsts test table trees i j₀ links j = (i < j) × (j ≤ 160) × Onward test table (i * 160) row (i * 160 + j) links
 
-abbrev decreases-loop2 : tie.decreases-loop2
+abbrev decreases-loop2 : tie.decreases-loop-j
 decreases-loop2 row firsts test table trees i j₀ links j = trees - j
 
-abbrev invariant-loop : tie.invariant-loop
+abbrev invariant-loop : tie.invariant-loop-i
 invariant-loop links₀ firsts test table trees i₀ links i = LinkedTo test table links₀ (i * 160) links
 
-abbrev decreases-loop : tie.decreases-loop
+abbrev decreases-loop : tie.decreases-loop-i
 decreases-loop links₀ firsts test table trees i₀ links i = trees - i
 
 -- no two trees have their byte between one place and a later one
@@ -58,105 +58,102 @@ passed on f l = record {
 }
 
 -- the function's entry, from the head of the inner loop
-abbrev start : tie.At-loop2 invariant-loop2 decreases-loop2 invariant-loop decreases-loop → tie.Start invariant-loop2 decreases-loop2 invariant-loop decreases-loop
+abbrev start : tie.At-loop-j invariant-loop2 decreases-loop2 invariant-loop decreases-loop → tie.Start invariant-loop2 decreases-loop2 invariant-loop decreases-loop
 start c = c.before.before.before.before
 
-loop-holds : tie.Need-loop-init invariant-loop2 decreases-loop2 invariant-loop decreases-loop
-loop-holds c = record { long = c.before.requires.bytes; behind = λ q _. refl; shown = λ ts h i j _ _ none. absurd (omega arith) }
+loop-holds : tie.Need-loop-i-init invariant-loop2 decreases-loop2 invariant-loop decreases-loop
+loop-holds c = record { long = c.requires.bytes; behind = λ q _. refl; shown = λ ts h i j _ _ none. absurd (omega arith) }
 
-add-j : tie.Need-overflow-add-j invariant-loop2 decreases-loop2 invariant-loop decreases-loop
+add-j : tie.Need-overflow_step-j invariant-loop2 decreases-loop2 invariant-loop decreases-loop
 add-j c = omega arith
 
-loop2-holds : tie.Need-loop2-init invariant-loop2 decreases-loop2 invariant-loop decreases-loop
+loop2-holds : tie.Need-loop-j-init invariant-loop2 decreases-loop2 invariant-loop decreases-loop
 loop2-holds c = (omega arith, omega arith, λ links₀ l. passed (omega arith) (λ i j lt inside before. omega arith) l)
 
-mul-place : tie.Need-overflow-mul-place invariant-loop2 decreases-loop2 invariant-loop decreases-loop
+mul-place : tie.Need-overflow_mul-place invariant-loop2 decreases-loop2 invariant-loop decreases-loop
 mul-place c = omega arith
 
-add-place : tie.Need-overflow-add-place invariant-loop2 decreases-loop2 invariant-loop decreases-loop
+add-place : tie.Need-overflow_add-place invariant-loop2 decreases-loop2 invariant-loop decreases-loop
 add-place c = omega arith
 
-both-first-requires : tie.Need-both-first-requires invariant-loop2 decreases-loop2 invariant-loop decreases-loop
+both-first-requires : tie.Need-both_first-first-requires invariant-loop2 decreases-loop2 invariant-loop decreases-loop
 both-first-requires c κs =
-    let p = (start c.before).pre in
+    let p = c.requires in
     let k = p.kept.keeps in
-    (omega (arith, c.before.loop2.invariant.0, c.loop2-test.true, k.count, k.few, p.lent), omega (arith, c.loop2-test.true, k.count, k.few, p.lent))
+    (omega (arith, c.loop-j.invariant.0, c.loop-j-test.true, k.count, k.few, p.lent), omega (arith, c.loop-j-test.true, k.count, k.few, p.lent))
 
-element-copy-out-linked-firsts : tie.Need-element-copy-out-linked-firsts invariant-loop2 decreases-loop2 invariant-loop decreases-loop
+element-copy-out-linked-firsts : tie.Need-bounds-links-place invariant-loop2 decreases-loop2 invariant-loop decreases-loop
 element-copy-out-linked-firsts c = omega arith
 
-mul-linked-firsts : tie.Need-overflow-mul-linked-firsts invariant-loop2 decreases-loop2 invariant-loop decreases-loop
+mul-linked-firsts : tie.Need-offset_bounds-table-i invariant-loop2 decreases-loop2 invariant-loop decreases-loop
 mul-linked-firsts c = omega arith
 
-element-copy-out-linked-firsts-2 : tie.Need-element-copy-out-linked-firsts-2 invariant-loop2 decreases-loop2 invariant-loop decreases-loop
+element-copy-out-linked-firsts-2 : tie.Need-bounds-table-i invariant-loop2 decreases-loop2 invariant-loop decreases-loop
 element-copy-out-linked-firsts-2 c = omega arith
 
-mul-linked-firsts-2 : tie.Need-overflow-mul-linked-firsts-2 invariant-loop2 decreases-loop2 invariant-loop decreases-loop
+mul-linked-firsts-2 : tie.Need-offset_bounds-table-j invariant-loop2 decreases-loop2 invariant-loop decreases-loop
 mul-linked-firsts-2 c = omega arith
 
-element-copy-out-linked-firsts-3 : tie.Need-element-copy-out-linked-firsts-3 invariant-loop2 decreases-loop2 invariant-loop decreases-loop
+element-copy-out-linked-firsts-3 : tie.Need-bounds-table-j invariant-loop2 decreases-loop2 invariant-loop decreases-loop
 element-copy-out-linked-firsts-3 c = omega arith
 
-linked-firsts-requires : tie.Need-linked-firsts-requires invariant-loop2 decreases-loop2 invariant-loop decreases-loop
+linked-firsts-requires : tie.Need-linked_firsts-linked-requires invariant-loop2 decreases-loop2 invariant-loop decreases-loop
 linked-firsts-requires c κs =
-    let l = c.before.before.before.before.before in
-    let held = kept_at (start l).requires.kept in
+    let held = kept_at c.requires.kept in
     (held _ (omega arith), held _ (omega arith))
 
-cast-links : tie.Need-overflow-cast-links invariant-loop2 decreases-loop2 invariant-loop decreases-loop
+cast-links : tie.Need-overflow_cast-links invariant-loop2 decreases-loop2 invariant-loop decreases-loop
 cast-links c = search rules
 
-element-write-links : tie.Need-element-write-links invariant-loop2 decreases-loop2 invariant-loop decreases-loop
+element-write-links : tie.Need-bounds-links-place-in-loop-j invariant-loop2 decreases-loop2 invariant-loop decreases-loop
 element-write-links c = omega arith
 
-add-j-2 : tie.Need-overflow-add-j-2 invariant-loop2 decreases-loop2 invariant-loop decreases-loop
+add-j-2 : tie.Need-overflow_step-j-in-loop-j invariant-loop2 decreases-loop2 invariant-loop decreases-loop
 add-j-2 c = omega arith
 
-loop2-less : tie.Need-loop2-smaller invariant-loop2 decreases-loop2 invariant-loop decreases-loop
+loop2-less : tie.Need-loop-j-smaller invariant-loop2 decreases-loop2 invariant-loop decreases-loop
 loop2-less c = omega arith
 
-loop2-again : tie.Need-loop2-preserved invariant-loop2 decreases-loop2 invariant-loop decreases-loop
+loop2-again : tie.Need-loop-j-preserved invariant-loop2 decreases-loop2 invariant-loop decreases-loop
 loop2-again c =
-    let turn = c.before.before.before.before.before in
-    let l = turn.before in
-    let i = l.before.before.loop.i in
-    let j = l.loop2.j in
-    let r = c.linked-firsts.result in (
+    let i = c.loop-i.i in
+    let j = c.loop-j.j in
+    let r = c.linked_firsts-linked.result in (
       omega arith,
       omega arith,
       λ links₀ L.
-          let last = l.loop2.invariant.2 links₀ L in
+          let last = c.loop-j.invariant.2 links₀ L in
           record {
             long = simp length-set last.long;
-            behind = λ q h. get_or-set_other l.loop2.links (i * 160 + j) q (bool_byte r) 0 (λ e. omega (arith, e)) ∙ last.behind q (omega arith);
+            behind = λ q h. get_or-set_other c.loop-j.links (i * 160 + j) q (bool_byte r) 0 (λ e. omega (arith, e)) ∙ last.behind q (omega arith);
             shown = λ ts h.
-                let column : j < length ts = omega (arith, h.count, turn.loop2-test.true) in
-                let row : i < length ts = omega (arith, l.loop2.invariant.0) in
-                let noted = (start l).requires.noted ts h in
-                let both = both_iff ts (start l).args.firsts.now i j (noted i row) (noted j column) in
-                let told = c.linked-firsts.ensures (tree_of ts i) (tree_of ts j) (h.each i row) (h.each j column) in
+                let column : j < length ts = omega (arith, h.count, c.loop-j-test.true) in
+                let row : i < length ts = omega (arith, c.loop-j.invariant.0) in
+                let noted = c.requires.noted ts h in
+                let both = both_iff ts c.args.firsts.now i j (noted i row) (noted j column) in
+                let told = c.linked_firsts-linked.ensures (tree_of ts i) (tree_of ts j) (h.each i row) (h.each j column) in
                 let was = byte-iff refl (last.behind (i * 160 + j) (omega arith)) in
-                shows_more (Links (start l).args.test links₀ ts) l.loop2.links (length ts) i j (bool_byte r) h.few column (omega (arith, last.long))
-                (linked-iff (says-byte r told) was c.before.before.before.before.both_first.ensures both) (last.shown ts h);
+                shows_more (Links c.args.test links₀ ts) c.loop-j.links (length ts) i j (bool_byte r) h.few column (omega (arith, last.long))
+                (linked-iff (says-byte r told) was c.both_first-first.ensures both) (last.shown ts h);
           },
     )
 
-add-i : tie.Need-overflow-add-i invariant-loop2 decreases-loop2 invariant-loop decreases-loop
+add-i : tie.Need-overflow_step-i invariant-loop2 decreases-loop2 invariant-loop decreases-loop
 add-i c = omega arith
 
-loop-less : tie.Need-loop-smaller invariant-loop2 decreases-loop2 invariant-loop decreases-loop
+loop-less : tie.Need-loop-i-smaller invariant-loop2 decreases-loop2 invariant-loop decreases-loop
 loop-less c = omega arith
 
-loop-again : tie.Need-loop-preserved invariant-loop2 decreases-loop2 invariant-loop decreases-loop
+loop-again : tie.Need-loop-i-preserved invariant-loop2 decreases-loop2 invariant-loop decreases-loop
 loop-again c =
-    let inv = c.before.loop2.invariant in
-    passed (omega (arith, inv.1)) (λ i j lt inside before. omega arith) (inv.2 _ c.before.before.before.loop.invariant)
+    let inv = c.loop-j.invariant in
+    passed (omega (arith, inv.1)) (λ i j lt inside before. omega arith) (inv.2 _ c.loop-i.invariant)
 
 returns : tie.Need-returns invariant-loop2 decreases-loop2 invariant-loop decreases-loop
-returns c ts h i j lt inside = c.before.loop.invariant.shown ts h i j lt inside (omega (arith, h.count))
+returns c ts h i j lt inside = c.loop-i.invariant.shown ts h i j lt inside (omega (arith, h.count))
 
-pub link-tried-spec : {M : Type 1} → statement M
-link-tried-spec =
+pub link_tried_spec : {M : Type 1} → statement M
+link_tried_spec =
     tie.close
     (tie.spec
     invariant-loop2

@@ -19,21 +19,21 @@ untold : {linked : Bool} {P : Type 0} → linked ≡ false → (linked ≡ true)
 untold e (inl f) = said-not f e
 untold e (inr p) = p
 
-returns : tie.Need-returns
-returns c t u k l = inl c.if1.true
+returns : tie.Need-returns-then-linked
+returns c t u k l = inl c.if-linked.true
 
-returns-2 : tie.Need-returns-2
-returns-2 c t u k l x = said-not (untold c.before.if1.false x).0 (not-true c.before.before.args.first c.if2.true)
+returns-2 : tie.Need-returns-then-not-first
+returns-2 c t u k l x = said-not (untold c.if-linked.false x).0 (not-true c.args.first c.if-not-first.true-raw)
 
 pass-requires : tie.Need-pass-requires
 pass-requires c κs = search rules
 
-returns-3 : tie.Need-returns-3
+returns-3 : tie.Need-returns
 returns-3 c t u k l =
-    let a = c.before.before.before.args in
-    let first = not-false a.first c.before.if2.false in
-    says (Tried a.test t u) ((a.linked ≡ true) ⊎ ((a.first ≡ true) × Tried a.test t u)) (λ r. inr (first, r)) (λ x. (untold c.before.before.if1.false x).1)
+    let a = c.args in
+    let first = not-false a.first c.if-not-first.false-raw in
+    says (Tried a.test t u) ((a.linked ≡ true) ⊎ ((a.first ≡ true) × Tried a.test t u)) (λ r. inr (first, r)) (λ x. (untold c.if-linked.false x).1)
     c.pass.result (c.pass.ensures t u k l)
 
-pub linked-firsts-spec : {M : Type 1} → statement M
-linked-firsts-spec = tie.close (tie.spec returns returns-2 pass-requires returns-3)
+pub linked_firsts_spec : {M : Type 1} → statement M
+linked_firsts_spec = tie.close (tie.spec returns returns-2 pass-requires returns-3)

@@ -7,29 +7,28 @@ use Rattle.replies.proofs.Replies.{answered-as}
 use Rattle.norbelath.proofs.clade_exports.norbelath_support.Statement.{statement}
 use Rattle.norbelath.proofs.clade_exports.norbelath_support.Tie as tie
 
-support-call-requires : tie.Need-support-call-requires
+support-call-requires : tie.Need-support_call-requires
 support-call-requires c κs = search rules
 
-support-reply-requires : tie.Need-support-reply-requires
+support-reply-requires : tie.Need-support_reply-reply-requires
 support-reply-requires c κs =
-    let d = c.before.before.before.before.before.before in
-    let a = d.before.before.before.before.before.before.before.before.args in
-    numbered-as d.support-call.ensures (support-numbered a.text.now (support_memory a.clades.now a.trees.now a.out.now))
+    let a = c.args in
+    numbered-as c.support_call.ensures (support-numbered a.text.now (support_memory a.clades.now a.trees.now a.out.now))
 
-same_length : tie.Need-same-length
+same_length : tie.Need-shape_of-clades
 same_length c = search rules
 
-same-length-2 : tie.Need-same-length-2
+same-length-2 : tie.Need-shape_of-trees
 same-length-2 c = search rules
 
-same-length-3 : tie.Need-same-length-3
+same-length-3 : tie.Need-shape_of-out
 same-length-3 c = search rules
 
 returns : tie.Need-returns
-returns c = answered-as c.support-reply.ensures c.before.before.before.before.before.before.before.support-call.ensures
+returns c = answered-as c.support_reply-reply.ensures c.support_call.ensures
 
-pub norbelath-support-spec : {M : Type 1} → statement M
-norbelath-support-spec =
+pub norbelath_support_spec : {M : Type 1} → statement M
+norbelath_support_spec =
     tie.close
     (tie.spec
     support-call-requires

@@ -7,24 +7,23 @@ use borrow.Author.Rules.{rules}
 use Rattle.norbelath.proofs.index_exports.norbelath_index_add.Statement.{statement}
 use Rattle.norbelath.proofs.index_exports.norbelath_index_add.Tie as tie
 
-index-add-call-requires : tie.Need-index-add-call-requires
+index-add-call-requires : tie.Need-index_add_call-requires
 index-add-call-requires c κs = search rules
 
-add-reply-requires : tie.Need-add-reply-requires
-add-reply-requires c κs = add-numbered c.before.before.index-add-call.ensures
+add-reply-requires : tie.Need-add_reply-requires
+add-reply-requires c κs = add-numbered c.index_add_call.ensures
 
-hand-back-requires : tie.Need-hand-back-requires
+hand-back-requires : tie.Need-hand_back-requires
 hand-back-requires c κs = search rules
 
-same_length : tie.Need-same-length
+same_length : tie.Need-shape_of-memory
 same_length c = search rules
 
 returns : tie.Need-returns
 returns c =
-    let d = c.before.before.before in
-    rw (handed-back text_value c.hand-back.ensures d.add-reply.ensures) d.before.before.before.index-add-call.ensures
+    rw (handed-back text_value c.hand_back.ensures c.add_reply.ensures) c.index_add_call.ensures
 
-pub norbelath-index-add-spec : {M : Type 1} → statement M
-norbelath-index-add-spec =
+pub norbelath_index_add_spec : {M : Type 1} → statement M
+norbelath_index_add_spec =
     tie.close
     (tie.spec index-add-call-requires add-reply-requires hand-back-requires same_length returns)

@@ -8,31 +8,29 @@ use borrow.Author.Rules.{rules}
 use Rattle.norbelath.proofs.plot_exports.norbelath_plot.Statement.{statement}
 use Rattle.norbelath.proofs.plot_exports.norbelath_plot.Tie as tie
 
-plot-call-requires : tie.Need-plot-call-requires
+plot-call-requires : tie.Need-plot_call-requires
 plot-call-requires c κs = search rules
 
-text-reply-requires : tie.Need-text-reply-requires
+text-reply-requires : tie.Need-text_reply-requires
 text-reply-requires c κs =
-    let d = c.before.before.before.before in
-    let a = d.before.before.before.before.before.before.args in
-    numbered-as d.plot-call.ensures (plot-numbered a.text.now (plot_memory a.rows.now a.columns.now))
+    let a = c.args in
+    numbered-as c.plot_call.ensures (plot-numbered a.text.now (plot_memory a.rows.now a.columns.now))
 
-hand-back-requires : tie.Need-hand-back-requires
+hand-back-requires : tie.Need-hand_back-requires
 hand-back-requires c κs = search rules
 
-same_length : tie.Need-same-length
+same_length : tie.Need-shape_of-rows
 same_length c = search rules
 
-same-length-2 : tie.Need-same-length-2
+same-length-2 : tie.Need-shape_of-columns
 same-length-2 c = search rules
 
 returns : tie.Need-returns
 returns c =
-    let d = c.before.before.before in
-    answered-as (handed-back text_value c.hand-back.ensures d.text-reply.ensures) d.before.before.before.before.before.plot-call.ensures
+    answered-as (handed-back text_value c.hand_back.ensures c.text_reply.ensures) c.plot_call.ensures
 
-pub norbelath-plot-spec : {M : Type 1} → statement M
-norbelath-plot-spec =
+pub norbelath_plot_spec : {M : Type 1} → statement M
+norbelath_plot_spec =
     tie.close
     (tie.spec
     plot-call-requires

@@ -7,20 +7,19 @@ use borrow.Author.Rules.{rules}
 use Rattle.norbelath.proofs.row_exports.norbelath_row_pair.Statement.{statement}
 use Rattle.norbelath.proofs.row_exports.norbelath_row_pair.Tie as tie
 
-row-pair-call-requires : tie.Need-row-pair-call-requires
+row-pair-call-requires : tie.Need-row_pair_call-requires
 row-pair-call-requires c κs = search rules
 
-pair-reply-requires : tie.Need-pair-reply-requires
-pair-reply-requires c κs = row-pair-numbered c.row-pair-call.ensures
+pair-reply-requires : tie.Need-pair_reply-requires
+pair-reply-requires c κs = row-pair-numbered c.row_pair_call.ensures
 
-hand-back-requires : tie.Need-hand-back-requires
+hand-back-requires : tie.Need-hand_back-requires
 hand-back-requires c κs = search rules
 
 returns : tie.Need-returns
 returns c =
-    let d = c.before.before.before in
-    rw (handed-back pair_value c.hand-back.ensures d.pair-reply.ensures) d.before.row-pair-call.ensures
+    rw (handed-back pair_value c.hand_back.ensures c.pair_reply.ensures) c.row_pair_call.ensures
 
-pub norbelath-row-pair-spec : {M : Type 1} → statement M
-norbelath-row-pair-spec =
+pub norbelath_row_pair_spec : {M : Type 1} → statement M
+norbelath_row_pair_spec =
     tie.close (tie.spec row-pair-call-requires pair-reply-requires hand-back-requires returns)

@@ -5,11 +5,11 @@ use borrow.Author.Rules.{rules}
 use Rattle.replies.proofs.clade_replies.long_refused.Statement.{statement}
 use Rattle.replies.proofs.clade_replies.long_refused.Tie as tie
 
-cast-text : tie.Need-overflow-cast-t2
+cast-text : tie.Need-overflow_cast-result
 cast-text c = search rules
 
 returns : tie.Need-returns
 returns c = refl
 
-pub long-refused-spec : {M : Type 1} → statement M
-long-refused-spec = tie.close (tie.spec cast-text returns)
+pub long_refused_spec : {M : Type 1} → statement M
+long_refused_spec = tie.close (tie.spec cast-text returns)

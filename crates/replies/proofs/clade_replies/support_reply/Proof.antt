@@ -7,22 +7,22 @@ use Rattle.replies.proofs.LongReplies.{said-refused}
 use Rattle.replies.proofs.clade_replies.support_reply.Statement.{statement}
 use Rattle.replies.proofs.clade_replies.support_reply.Tie as tie
 
-enum-known-answer : tie.Need-enum-known-answer
+enum-known-answer : tie.Need-enum_known-answer
 enum-known-answer c = search rules
 
-enum-known-answer-2 : tie.Need-enum-known-answer-2
+enum-known-answer-2 : tie.Need-enum_known-answer-in-Refused-1
 enum-known-answer-2 c = search rules
 
-long-refused-requires : tie.Need-long-refused-requires
+long-refused-requires : tie.Need-long_refused-requires
 long-refused-requires c κs = search rules
 
-returns : tie.Need-returns
-returns c = sym (ap support_answer c.before.answer.given.1)
+returns : tie.Need-returns-in-Listed
+returns c = sym (ap support_answer c.in-Listed.is)
 
-returns-2 : tie.Need-returns-2
-returns-2 c = said-refused c.long-refused.ensures (ap support_answer c.before.before.answer2.given.1) c.before.before.before.before.requires
+returns-2 : tie.Need-returns-in-Refused
+returns-2 c = said-refused c.long_refused.ensures (ap support_answer c.in-Refused.is) c.requires
 
-pub support-reply-spec : {M : Type 1} → statement M
-support-reply-spec =
+pub support_reply_spec : {M : Type 1} → statement M
+support_reply_spec =
     tie.close
     (tie.spec enum-known-answer enum-known-answer-2 long-refused-requires returns returns-2)

@@ -53,83 +53,82 @@ module _ (t : ℕ) where
 
   -- where the walk enters the clade
   abbrev Entered : Type 0
-  Entered = lts.After-shared-slice-known claims here own.Post
+  Entered = lts.After-shared_slice_known-1 claims here own.Post
 
   abbrev start : Entered → lts.Start claims here own.Post
   start e = e.before.before
 
   abbrev row : Entered → List ℕ
-  row e = (start e).args.row.now
+  row e = e.args.row.now
 
   abbrev cs : Entered → List ℕ
   cs e = drop 1 (row e)
 
   abbrev clade : Entered → ℕ
-  clade e = (start e).args.c
+  clade e = e.args.c
 
   -- there is room for the byte of the node
-  room : (e : Entered) → (start e).args.at < length (start e).args.out.now
-  room e = let p = (start e).pre.1 in omega (arith, p.room, some-nodes p.tree)
+  room : (e : Entered) → e.args.at < length e.args.out.now
+  room e = let p = e.requires.1 in omega (arith, p.room, some-nodes p.tree)
 
   -- one label
   smallest-requires : lts.Need-smallest-requires claims here own.Post
   smallest-requires c κs = search rules
 
-  cast-out : lts.Need-overflow-cast-out claims here own.Post
+  cast-out : lts.Need-overflow_cast-out claims here own.Post
   cast-out c = omega (arith, c.smallest.ensures, trailing_le 64 (clade c.before.before))
 
-  slice-write-out : lts.Need-slice-write-out claims here own.Post
+  slice-write-out : lts.Need-bounds-out-at claims here own.Post
   slice-write-out c = room c.before.before
 
-  add-result : lts.Need-overflow-add-result claims here own.Post
+  add-result : lts.Need-overflow_add-result claims here own.Post
   add-result c = let h = room c.before.before in search (rules, h)
 
-  same_length : lts.Need-same-length claims here own.Post
+  same_length : lts.Need-shape_of-out-then-place-eq0 claims here own.Post
   same_length c = simp length-set
 
-  returns : lts.Need-returns claims here own.Post
+  returns : lts.Need-returns-then-place-eq0 claims here own.Post
   returns c =
-      let e = c.before.before in
-      let one = (start e).requires.1.placed.alone (omega (arith, c.before.if1.true)) in
-      λ u g. leaf-written u g (omega (arith, one)) c.smallest.ensures (start e).args.out.now (start e).args.at
+      let one = c.requires.1.placed.alone (omega (arith, c.if-place-eq0.true)) in
+      λ u g. leaf-written u g (omega (arith, one)) c.smallest.ensures c.args.out.now c.args.at
 
   -- two labels or more
   abbrev More : Type 0
-  More = lts.Else1 claims here own.Post
+  More = lts.Else-place-eq0 claims here own.Post
 
-  stands : (m : More) → 0 < (start m.before).args.place
-  stands m = omega (arith, m.if1.left)
+  stands : (m : More) → 0 < m.args.place
+  stands m = omega (arith, m.if-place-eq0.false)
 
-  element-copy-out-first : lts.Need-element-copy-out-first claims here own.Post
+  element-copy-out-first : lts.Need-bounds-before-place claims here own.Post
   element-copy-out-first c =
-      let p = (start c.before).pre.1 in
-      omega (arith, (p.placed.stands (stands c)).0, row-long (row c.before) p.a_row)
+      let p = c.requires.1 in
+      omega (arith, (p.placed.stands (stands c.before)).0, row-long (row c.before.before) p.a_row)
 
-  first-child-requires : lts.Need-first-child-requires claims here own.Post
+  first-child-requires : lts.Need-first_child-child-requires claims here own.Post
   first-child-requires c κs =
-      let m = c.before in
-      let p = (start m.before).pre.1 in
+      let m = c.before.before in
+      let p = c.requires.1 in
       (first-inside p (stands m), subst (λ (x : ℕ). 0 < x) p.grows.whole (clade-some p.tree))
 
   -- the first child is known
   abbrev Chosen : Type 0
-  Chosen = lts.After-first-child claims here own.Post
+  Chosen = lts.After-first_child-child claims here own.Post
 
   abbrev more : Chosen → More
-  more d = d.before.before
+  more d = d.before.before.before
 
   abbrev entered : Chosen → Entered
   entered d = (more d).before
 
-  child : (d : Chosen) → d.first-child.result ≡ first_child (cs (entered d)) (clade (entered d))
-  child d = let p = (start (entered d)).pre.1 in d.first-child.ensures ∙ placed_first p (stands (more d))
+  child : (d : Chosen) → d.first_child-child.result ≡ first_child (cs (entered d)) (clade (entered d))
+  child d = let p = d.requires.1 in d.first_child-child.ensures ∙ placed_first p (stands (more d))
 
   fork-of : (d : Chosen) (u : Tree) → GrowsTo (cs (entered d)) (clade (entered d)) u → Forked (cs (entered d)) (clade (entered d)) u
-  fork-of d u g = let p = (start (entered d)).pre.1 in grown-fork u g (placed-large p (stands (more d)))
+  fork-of d u g = let p = d.requires.1 in grown-fork u g (placed-large p (stands (more d)))
 
   -- that of the tree for which there is room
-  abbrev own-fork : (d : Chosen) → Forked (cs (entered d)) (clade (entered d)) (start (entered d)).pre.1.tree
-  own-fork d = let p = (start (entered d)).pre.1 in fork-of d p.tree p.grows
+  abbrev own-fork : (d : Chosen) → Forked (cs (entered d)) (clade (entered d)) d.requires.1.tree
+  own-fork d = let p = d.requires.1 in fork-of d p.tree p.grows
 
   labels-requires : lts.Need-labels-requires claims here own.Post
   labels-requires c κs = search rules
@@ -141,22 +140,22 @@ module _ (t : ℕ) where
   few : (l : Labelled) → l.labels.result < 65
   few l = omega (arith, l.labels.ensures, size-le (clade (entered l.before)))
 
-  cast-out-2 : lts.Need-overflow-cast-out-2 claims here own.Post
+  cast-out-2 : lts.Need-overflow_cast-out-2 claims here own.Post
   cast-out-2 c = omega (arith, few c)
 
-  add-out : lts.Need-overflow-add-out claims here own.Post
+  add-out : lts.Need-overflow_add-out claims here own.Post
   add-out c = omega (arith, few c)
 
-  slice-write-out-2 : lts.Need-slice-write-out-2 claims here own.Post
+  slice-write-out-2 : lts.Need-bounds-out-at-2 claims here own.Post
   slice-write-out-2 c = room (entered c.before)
 
-  add-grow : lts.Need-overflow-add-grow claims here own.Post
+  add-grow : lts.Need-overflow_add-at claims here own.Post
   add-grow c = let h = room (entered c.before.before) in search (rules, h)
 
-  grow-requires : lts.Need-grow-requires claims here own.Post
+  grow-requires : lts.Need-grow-next-requires claims here own.Post
   grow-requires c κs =
       let d = c.before.before in
-      let p = (start (entered d)).pre in
+      let p = c.requires in
       let F = own-fork d in (
         omega (arith, F.first-less, ap size (child d), p.0),
         record {
@@ -171,7 +170,7 @@ module _ (t : ℕ) where
 
   -- the first subtree is written
   abbrev First : Type 0
-  First = lts.After-grow claims here own.Post
+  First = lts.After-grow-next claims here own.Post
 
   abbrev labelled : First → Labelled
   labelled f = f.before.before
@@ -182,20 +181,20 @@ module _ (t : ℕ) where
   abbrev from : First → lts.Start claims here own.Post
   from f = start (entered (chosen f))
 
-  first-written : (f : First) (u : Tree) (g : GrowsTo (cs (entered (chosen f))) (from f).args.c u)
-      → Wrote (pre (fork-of (chosen f) u g).first) (set (from f).args.out.now (from f).args.at (64 + (labelled f).labels.result))
-      f.grow.last.0 ((from f).args.at + 1) f.grow.result
-  first-written f u g = let F = fork-of (chosen f) u g in f.grow.ensures F.first (first-grown (child (chosen f)) F)
+  first-written : (f : First) (u : Tree) (g : GrowsTo (cs (entered (chosen f))) f.args.c u)
+      → Wrote (pre (fork-of (chosen f) u g).first) (set f.args.out.now f.args.at (64 + f.labels.result))
+      f.grow-next.new.out (f.args.at + 1) f.grow-next.result
+  first-written f u g = let F = fork-of (chosen f) u g in f.grow-next.ensures F.first (first-grown (child (chosen f)) F)
 
-  first-own : (f : First) → Wrote (pre (own-fork (chosen f)).first) (set (from f).args.out.now (from f).args.at (64 + (labelled f).labels.result))
-      f.grow.last.0 ((from f).args.at + 1) f.grow.result
-  first-own f = let p = (from f).pre.1 in first-written f p.tree p.grows
+  first-own : (f : First) → Wrote (pre (own-fork (chosen f)).first) (set f.args.out.now f.args.at (64 + f.labels.result))
+      f.grow-next.new.out (f.args.at + 1) f.grow-next.result
+  first-own f = let p = f.requires.1 in first-written f p.tree p.grows
 
-  first-length : (f : First) → length f.grow.last.0 ≡ length (from f).args.out.now
-  first-length f = wrote-length (first-own f) ∙ length-set (from f).args.out.now (from f).args.at (64 + (labelled f).labels.result)
+  first-length : (f : First) → length f.grow-next.new.out ≡ length f.args.out.now
+  first-length f = wrote-length (first-own f) ∙ length-set f.args.out.now f.args.at (64 + f.labels.result)
 
   -- the rest
-  sub-rest : lts.Need-overflow-sub-rest claims here own.Post
+  sub-rest : lts.Need-overflow_sub-rest claims here own.Post
   sub-rest c = let d = chosen c.before.before in omega (arith, (own-fork d).part, child d)
 
   smallest-requires-2 : lts.Need-smallest-requires-2 claims here own.Post
@@ -203,65 +202,65 @@ module _ (t : ℕ) where
 
   -- its smallest label is known
   abbrev Rest : Type 0
-  Rest = lts.After-smallest2 claims here own.Post
+  Rest = lts.After-smallest-2 claims here own.Post
 
   abbrev written : Rest → First
   written r = r.before.before.before
 
   -- it is a label of the rest, to which a tree grows
-  rest-low : (r : Rest) → let d = chosen (written r) in r.smallest2.result ≡ lowest (clade (entered d) - d.first-child.result)
-  rest-low r = r.smallest2.ensures
+  rest-low : (r : Rest) → let d = chosen (written r) in r.smallest-2.result ≡ lowest (clade (entered d) - d.first_child-child.result)
+  rest-low r = r.smallest-2.ensures
 
-  rest-grows : (r : Rest) → let d = chosen (written r) in GrowsTo (cs (entered d)) (clade (entered d) - d.first-child.result) (own-fork d).second
+  rest-grows : (r : Rest) → let d = chosen (written r) in GrowsTo (cs (entered d)) (clade (entered d) - d.first_child-child.result) (own-fork d).second
   rest-grows r = let d = chosen (written r) in second-grown (child d) (own-fork d)
 
-  sub-second : lts.Need-overflow-sub-second claims here own.Post
-  sub-second c = omega (arith, c.smallest2.ensures)
+  sub-second : lts.Need-overflow_sub-second claims here own.Post
+  sub-second c = omega (arith, c.smallest-2.ensures)
 
-  element-copy-out-second : lts.Need-element-copy-out-second claims here own.Post
-  element-copy-out-second c = omega (arith, rest-low c, grown-low (rest-grows c))
+  element-copy-out-second : lts.Need-bounds-last-smallest claims here own.Post
+  element-copy-out-second c = omega (arith, rest-low c.before, grown-low (rest-grows c.before))
 
-  grow-requires-2 : lts.Need-grow-requires-2 claims here own.Post
+  grow-requires-2 : lts.Need-grow-requires claims here own.Post
   grow-requires-2 c κs =
-      let r = c.before.before in
+      let r = c.before.before.before in
       let f = written r in
       let d = chosen f in
-      let p = (from f).pre in
+      let p = f.requires in
       let F = own-fork d in (
-        omega (arith, F.second-less, ap (λ (x : ℕ). size ((from f).args.c - x)) (child d), p.0),
+        omega (arith, F.second-less, ap (λ (x : ℕ). size (f.args.c - x)) (child d), p.0),
         record {
           a_row = p.1.a_row;
           noted = p.1.noted;
-          placed = second-placed p.1 (stands (more d)) (child d) r.smallest2.result (rest-low r) (grown-low (rest-grows r));
+          placed = second-placed p.1 (stands (more d)) (child d) c.smallest-2.result (rest-low r) (grown-low (rest-grows r));
           tree = F.second;
           grows = rest-grows r;
           room = omega (arith, p.1.room, ap nodes F.is, first-length f, (first-own f).behind, length-pre F.first);
         },
       )
 
-  second-written : (w : lts.After-grow2 claims here own.Post) → let f = written w.before.before.before in (u : Tree) (g : GrowsTo (cs (entered (chosen f))) (from f).args.c u)
-      → Wrote (pre (fork-of (chosen f) u g).second) f.grow.last.0 w.grow2.new.0 f.grow.result w.grow2.result
+  second-written : (w : lts.After-grow claims here own.Post) → let f = written w.before.before.before.before in (u : Tree) (g : GrowsTo (cs (entered (chosen f))) f.args.c u)
+      → Wrote (pre (fork-of (chosen f) u g).second) f.grow-next.new.out w.grow.new.out f.grow-next.result w.grow.result
   second-written w u g =
-      let f = written w.before.before.before in
+      let f = written w.before.before.before.before in
       let F = fork-of (chosen f) u g in
-      w.grow2.ensures F.second (second-grown (child (chosen f)) F)
+      w.grow.ensures F.second (second-grown (child (chosen f)) F)
 
-  same-length-2 : lts.Need-same-length-2 claims here own.Post
+  same-length-2 : lts.Need-shape_of-out claims here own.Post
   same-length-2 c =
       let w = c.before.before in
-      let f = written w.before.before.before in
-      let p = (from f).pre.1 in
+      let f = written w.before.before.before.before in
+      let p = f.requires.1 in
       wrote-length (second-written w p.tree p.grows) ∙ first-length f
 
-  returns-2 : lts.Need-returns-2 claims here own.Post
+  returns-2 : lts.Need-returns claims here own.Post
   returns-2 c =
       let w = c.before.before in
-      let f = written w.before.before.before in
+      let f = written w.before.before.before.before in
       let d = chosen f in
-      λ u g. fork-written (labelled f).labels.ensures (fork-of d u g) (first-written f u g) (second-written w u g)
+      λ u g. fork-written f.labels.ensures (fork-of d u g) (first-written f u g) (second-written w u g)
 
-pub +grow-spec : {M : Type 1} → statement M
-+grow-spec =
+pub +grow_spec : {M : Type 1} → statement M
++grow_spec =
     close μ λ t. lts.spec (claims t) (here t) own.Post
     (smallest-requires t)
     (cast-out t)

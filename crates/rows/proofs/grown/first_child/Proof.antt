@@ -14,26 +14,24 @@ clade-there : (row : List ℕ) (p c : ℕ) → 0 < p → get_or row p 0 ≡ clad
 clade-there row zero c h = absurd (omega arith)
 clade-there row (suc p) c h = refl
 
-low-bit-requires : tie.Need-low-bit-requires
+low-bit-requires : tie.Need-low_bit-requires
 low-bit-requires c κs = search rules
 
-returns : tie.Need-returns
+returns : tie.Need-returns-then-first-eq0
 returns c =
-    let t = c.before in
-    let a = t.before.before.args in
-    c.low_bit.ensures ∙ ap (λ (p : ℕ). clade_at a.row.now p a.c) (sym t.if1.true)
+    let a = c.args in
+    c.low_bit.ensures ∙ ap (λ (p : ℕ). clade_at a.row.now p a.c) (sym c.if-first-eq0.true)
 
-mul-result : tie.Need-overflow-mul-result
+mul-result : tie.Need-offset_bounds-row-first
 mul-result c = search rules
 
-shared-slice-read-result : tie.Need-shared-slice-read-result
+shared-slice-read-result : tie.Need-bounds-row-first
 shared-slice-read-result c = search rules
 
-returns-2 : tie.Need-returns-2
+returns-2 : tie.Need-returns
 returns-2 c =
-    let e = c.before in
-    let a = e.before.before.args in
-    clade-there a.row.now a.first a.c (omega (arith, e.if1.false))
+    let a = c.args in
+    clade-there a.row.now a.first a.c (omega (arith, c.if-first-eq0.false))
 
-pub first-child-spec : {M : Type 1} → statement M
-first-child-spec = tie.close (tie.spec low-bit-requires returns mul-result shared-slice-read-result returns-2)
+pub first_child_spec : {M : Type 1} → statement M
+first_child_spec = tie.close (tie.spec low-bit-requires returns mul-result shared-slice-read-result returns-2)

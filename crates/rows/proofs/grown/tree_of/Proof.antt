@@ -12,8 +12,8 @@ use Rattle.rows.proofs.Whole.{row-grows, row_room, row_kept}
 use Rattle.rows.proofs.grown.tree_of.Statement.{statement}
 use Rattle.rows.proofs.grown.tree_of.Tie as tie
 
-note-places-requires : tie.Need-note-places-requires
-note-places-requires c κs = let s = c.before.before.before in (s.requires, noted-none s.args.row.now)
+note-places-requires : tie.Need-note_places-requires
+note-places-requires c κs = (c.requires, noted-none c.args.row.now)
 
 -- the places are noted, and the smallest label of all is known
 abbrev Ready : Type 0
@@ -23,33 +23,33 @@ abbrev start : Ready → tie.Start
 start r = r.before.before.before.before.before.before
 
 abbrev row : Ready → List ℕ
-row r = (start r).args.row.now
+row r = r.args.row.now
 
-shared-slice-read-s : tie.Need-shared-slice-read-s
-shared-slice-read-s c = let s = c.before.before.before.before.before in row-some s.args.row.now s.requires
+shared-slice-read-s : tie.Need-bounds-row-0
+shared-slice-read-s c = row-some c.args.row.now c.requires
 
 smallest-requires : tie.Need-smallest-requires
 smallest-requires c κs = search rules
 
-sub-place : tie.Need-overflow-sub-place
+sub-place : tie.Need-overflow_sub-place
 sub-place c = search rules
 
-array-read-place : tie.Need-array-read-place
-array-read-place c = omega (arith, c.smallest.ensures, grown-low (row-grows (row c) (start c).requires))
+array-read-place : tie.Need-bounds-last-smallest
+array-read-place c = omega (arith, c.smallest.ensures, grown-low (row-grows (row c) c.requires))
 
-slice-aggregate-grow : tie.Need-slice-aggregate-grow
+slice-aggregate-grow : tie.Need-slice_bounds-grow-end
 slice-aggregate-grow c = search rules
 
 grow-requires : tie.Need-grow-requires
 grow-requires c κs =
     let r = c.before.before.before in
-    row_room (row r) (start r).requires r.smallest.result r.smallest.ensures r.before.before.note-places.ensures
+    row_room (row r) c.requires c.smallest.result c.smallest.ensures c.note_places.ensures
 
 returns : tie.Need-returns
 returns c =
     let g = c.before in
     let r = g.before.before.before.before in
-    row_kept (row r) (start r).requires (g.grow.ensures (row_tree (row r)) (row-grows (row r) (start r).requires))
+    row_kept (row r) c.requires (c.grow.ensures (row_tree (row r)) (row-grows (row r) c.requires))
 
-pub tree-of-spec : {M : Type 1} → statement M
-tree-of-spec = tie.close (tie.spec note-places-requires shared-slice-read-s smallest-requires sub-place array-read-place slice-aggregate-grow grow-requires returns)
+pub tree_of_spec : {M : Type 1} → statement M
+tree_of_spec = tie.close (tie.spec note-places-requires shared-slice-read-s smallest-requires sub-place array-read-place slice-aggregate-grow grow-requires returns)

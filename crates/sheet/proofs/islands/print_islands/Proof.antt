@@ -11,56 +11,56 @@ use Rattle.sheet.proofs.islands.print_islands.Statement.{statement}
 use Rattle.sheet.proofs.islands.print_islands.Tie as tie
 
 -- the entry, from where the text was read
-abbrev start : tie.After-read-lent-table → tie.Start
+abbrev start : tie.After-read_lent_table-read → tie.Start
 start d = d.before.before
 
-read-lent-table-requires : tie.Need-read-lent-table-requires
+read-lent-table-requires : tie.Need-read_lent_table-read-requires
 read-lent-table-requires c κs = search rules
 
-enum-known-step : tie.Need-enum-known-step
+enum-known-step : tie.Need-enum_known-step
 enum-known-step c = search rules
 
 -- a text that is refused: where it was read, and the size of the array, which is lent as a slice
-abbrev refused : tie.After-print-refusal-arg → tie.After-read-lent-table
-refused c = c.before.before.before.before
+abbrev refused : tie.After-print_refusal-arg-1 → tie.After-read_lent_table-read
+refused c = c.before.before
 
-refused-room : (c : tie.After-print-refusal-arg) → island_sheet_bytes ≤ length (start (refused c)).args.out.now
-refused-room c = omega (arith, c.print-refusal-arg.given.0.1)
+refused-room : (c : tie.After-print_refusal-arg-1) → island_sheet_bytes ≤ length c.args.out.now
+refused-room c = omega (arith, c.print_refusal-arg-1.given.0.1)
 
-print-refusal-requires : tie.Need-print-refusal-requires
+print-refusal-requires : tie.Need-print_refusal-requires
 print-refusal-requires c κs =
-    let a = (start (refused c)).args in
-    refusal-room a.s.now a.out.now (refused-room c) (λ x h. island-sheet-fits h) (refused c).read-lent-table.ensures c.before.before.step.given.1
+    let a = c.args in
+    refusal-room a.s.now a.out.now (refused-room c) (λ x h. island-sheet-fits h) c.read_lent_table-read.ensures c.in-Refused.is
 
-enum_told : tie.Need-enum-told
+enum_told : tie.Need-enum_told-1
 enum_told c = search rules
 
 -- a text that is accepted
-abbrev taken : tie.After-write-table-islands-arg → tie.After-read-lent-table
-taken c = c.before.before.before
+abbrev taken : tie.After-write_table_islands-arg-1 → tie.After-read_lent_table-read
+taken c = c.before.before
 
-taken-room : (c : tie.After-write-table-islands-arg) → island_sheet_bytes ≤ length (start (taken c)).args.out.now
-taken-room c = omega (arith, c.write-table-islands-arg.given.0.1)
+taken-room : (c : tie.After-write_table_islands-arg-1) → island_sheet_bytes ≤ length c.args.out.now
+taken-room c = omega (arith, c.write_table_islands-arg-1.given.0.1)
 
-write-table-islands-requires : tie.Need-write-table-islands-requires
+write-table-islands-requires : tie.Need-write_table_islands-requires
 write-table-islands-requires c κs =
-    let a = (start (taken c)).args in
-    table_fits a.s.now a.out.now (taken-room c) (λ x h. island-sheet-fits h) (taken c).read-lent-table.ensures c.before.enum_told.given.1
+    let a = c.args in
+    table_fits a.s.now a.out.now (taken-room c.before) (λ x h. island-sheet-fits h) c.read_lent_table-read.ensures c.in-Next.is
 
-returns : tie.Need-returns
+returns : tie.Need-returns-in-Refused
 returns c =
     let b = c.before in
-    let a = (start (refused b)).args in
-    refusal-printed a.s.now a.out.now (refused-room b) (λ x h. island-sheet-fits h) (refused b).read-lent-table.ensures b.before.before.step.given.1 c.print-refusal.ensures
+    let a = c.args in
+    refusal-printed a.s.now a.out.now (refused-room b) (λ x h. island-sheet-fits h) c.read_lent_table-read.ensures c.in-Refused.is c.print_refusal.ensures
 
-returns-2 : tie.Need-returns-2
+returns-2 : tie.Need-returns-in-Next
 returns-2 c =
-    let b = c.before in
-    let a = (start (taken b)).args in
-    table-printed a.s.now a.out.now (taken-room b) (λ x h. island-sheet-fits h) (taken b).read-lent-table.ensures b.before.enum_told.given.1 c.write-table-islands.ensures
+    let b = c.before.before in
+    let a = c.args in
+    table-printed a.s.now a.out.now (taken-room b) (λ x h. island-sheet-fits h) c.read_lent_table-read.ensures c.in-Next.is c.write_table_islands.ensures
 
-pub print-islands-spec : {M : Type 1} → statement M
-print-islands-spec =
+pub print_islands_spec : {M : Type 1} → statement M
+print_islands_spec =
     tie.close
     (tie.spec
     read-lent-table-requires

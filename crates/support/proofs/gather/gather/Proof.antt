@@ -20,64 +20,63 @@ record GatheredTo (table : Table) (xs xs' : List ℕ) (next i : ℕ) : Type 0 wh
   few : i ≤ table.len
   so : (ts : List Topology) → KeepsAll table ts → Gathering (map canon ts) xs xs' next i
 
-abbrev invariant-loop : tie.invariant-loop
+abbrev invariant-loop : tie.invariant-loop-i
 invariant-loop xs₀ table next₀ i₀ i-end xs next i = GatheredTo table xs₀ xs next i
 
-abbrev decreases-loop : tie.decreases-loop
+abbrev decreases-loop : tie.decreases-loop-i
 decreases-loop xs₀ table next₀ i₀ i-end xs next i = table.len - i
 
-loop-holds : tie.Need-loop-init invariant-loop decreases-loop
+loop-holds : tie.Need-loop-i-init invariant-loop decreases-loop
 loop-holds c = record { few = omega arith; so = λ ts h. gathering-none (map canon ts) c.args.xs.now }
 
 -- a turn of the loop
 abbrev Turn : Type 0
-Turn = tie.In-loop invariant-loop decreases-loop
+Turn = tie.In-loop-i invariant-loop decreases-loop
 
-few : (u : Turn) → u.before.loop.i < 160
-few u = let k = u.before.before.pre.0.keeps in omega (arith, u.loop-test.taken, k.count, k.few)
+few : (u : Turn) → u.loop-i.i < 160
+few u = let k = u.requires.0.keeps in omega (arith, u.loop-i-test.true, k.count, k.few)
 
 -- of the trees that the table is known to keep
-known : (u : Turn) → let p = u.before.before.pre.0 in Gathering (map canon p.trees) u.before.before.args.xs.now u.before.loop.xs u.before.loop.next u.before.loop.i
-known u = let p = u.before.before.pre.0 in u.before.loop.inv.so p.trees p.keeps
+known : (u : Turn) → let p = u.requires.0 in Gathering (map canon p.trees) u.args.xs.now u.loop-i.xs u.loop-i.next u.loop-i.i
+known u = let p = u.requires.0 in u.loop-i.invariant.so p.trees p.keeps
 
-mul-note-clades : tie.Need-overflow-mul-note-clades invariant-loop decreases-loop
+mul-note-clades : tie.Need-offset_bounds-table-i invariant-loop decreases-loop
 mul-note-clades c = omega (arith, few c.before)
 
-element-copy-out-note-clades : tie.Need-element-copy-out-note-clades invariant-loop decreases-loop
+element-copy-out-note-clades : tie.Need-bounds-table-i invariant-loop decreases-loop
 element-copy-out-note-clades c = few c.before
 
-note-clades-requires : tie.Need-note-clades-requires invariant-loop decreases-loop
+note-clades-requires : tie.Need-note_clades-next-requires invariant-loop decreases-loop
 note-clades-requires c κs =
     let u = c.before.before in
-    let p = u.before.before.requires in
+    let p = c.requires in
     record {
-      kept = kept_at p.0 u.before.loop.i u.loop-test.true;
+      kept = kept_at p.0 c.loop-i.i c.loop-i-test.true;
       room = omega (arith, (known u).few, few u, wrote-length (known u).wrote, p.1);
     }
 
-add-i : tie.Need-overflow-add-i invariant-loop decreases-loop
+add-i : tie.Need-overflow_step-i invariant-loop decreases-loop
 add-i c = omega (arith, few c.before.before.before)
 
-loop-less : tie.Need-loop-smaller invariant-loop decreases-loop
-loop-less c = omega (arith, c.before.before.before.loop-test.true)
+loop-less : tie.Need-loop-i-smaller invariant-loop decreases-loop
+loop-less c = omega (arith, c.loop-i-test.true)
 
-loop-again : tie.Need-loop-preserved invariant-loop decreases-loop
+loop-again : tie.Need-loop-i-preserved invariant-loop decreases-loop
 loop-again c =
-    let u = c.before.before.before in
-    let i = u.before.loop.i in
+    let i = c.loop-i.i in
     record {
-      few = omega (arith, u.loop-test.true);
+      few = omega (arith, c.loop-i-test.true);
       so = λ ts h.
-          let inside : i < length ts = omega (arith, h.count, u.loop-test.true) in
+          let inside : i < length ts = omega (arith, h.count, c.loop-i-test.true) in
           let k = h.each i inside in
-          gathering-more (u.before.loop.invariant.so ts h) (omega (arith, length-map ts canon)) (get_or-map canon ts i (leaf 0)) (canon-good k.good) (c.note-clades.ensures (tree_of ts i) k);
+          gathering-more (c.loop-i.invariant.so ts h) (omega (arith, length-map ts canon)) (get_or-map canon ts i (leaf 0)) (canon-good k.good) (c.note_clades-next.ensures (tree_of ts i) k);
     }
 
 returns : tie.Need-returns invariant-loop decreases-loop
-returns c ts h = gathering-all (c.before.loop.invariant.so ts h) (omega (arith, length-map ts canon, h.count, c.loop-test.false))
+returns c ts h = gathering-all (c.loop-i.invariant.so ts h) (omega (arith, length-map ts canon, h.count, c.loop-i-test.false))
 
-pub gather-spec : {M : Type 1} → statement M
-gather-spec =
+pub gather_spec : {M : Type 1} → statement M
+gather_spec =
     tie.close
     (tie.spec
     invariant-loop

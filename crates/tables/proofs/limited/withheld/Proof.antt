@@ -6,18 +6,18 @@ use Rattle.meaning.specs.Limits.{text_bytes}
 use Rattle.tables.proofs.limited.withheld.Statement.{statement}
 use Rattle.tables.proofs.limited.withheld.Tie as tie
 
-returns : tie.Need-returns
-returns c = rw (not-true c.before.args.fits c.if1.true)
+returns : tie.Need-returns-then-not-fits
+returns c = rw (not-true c.args.fits c.if-not-fits.true-raw)
 
-returns-2 : tie.Need-returns-2
+returns-2 : tie.Need-returns-then-s-gt-TEXT_BYTES
 returns-2 c =
-    let a = c.before.before.args in
-    rw (not-false a.fits c.before.if1.false, lt-ltb text_bytes (length a.s.now) c.if2.true)
+    let a = c.args in
+    rw (not-false a.fits c.if-not-fits.false-raw, lt-ltb text_bytes (length a.s.now) c.if-s-gt-TEXT_BYTES.true)
 
-returns-3 : tie.Need-returns-3
+returns-3 : tie.Need-returns
 returns-3 c =
-    let a = c.before.before.args in
-    rw (not-false a.fits c.before.if1.false, le-ltb text_bytes (length a.s.now) c.if2.false)
+    let a = c.args in
+    rw (not-false a.fits c.if-not-fits.false-raw, le-ltb text_bytes (length a.s.now) c.if-s-gt-TEXT_BYTES.false)
 
-pub withheld-spec : {M : Type 1} → statement M
-withheld-spec = tie.close (tie.spec returns returns-2 returns-3)
+pub withheld_spec : {M : Type 1} → statement M
+withheld_spec = tie.close (tie.spec returns returns-2 returns-3)

@@ -13,72 +13,72 @@ use Rattle.tokens.proofs.marks.read_mark.Statement.{statement}
 use Rattle.tokens.proofs.marks.read_mark.Tie as tie
 
 -- the text, and where the mark is looked for
-abbrev text : tie.After-byte-at → List ℕ
-text c = c.before.before.before.args.s.now
+abbrev text : tie.After-byte_at → List ℕ
+text c = c.args.s.now
 
-abbrev from : tie.After-byte-at → ℕ
-from c = c.before.before.before.args.from
+abbrev from : tie.After-byte_at → ℕ
+from c = c.args.from
 
-skip-blanks-requires : tie.Need-skip-blanks-requires
+skip-blanks-requires : tie.Need-skip_blanks-q-requires
 skip-blanks-requires c κs = search rules
 
-byte-at-requires : tie.Need-byte-at-requires
+byte-at-requires : tie.Need-byte_at-requires
 byte-at-requires c κs = search rules
 
-returns : tie.Need-returns
+returns : tie.Need-returns-then-byte_at-ne91
 returns c =
     let d = c.before in
-    step-got (mark-none (text d) (from d) d.before.skip-blanks.ensures d.byte_at.ensures c.if1.true) refl refl
+    step-got (mark-none (text d) (from d) d.skip_blanks-q.ensures d.byte_at.ensures c.if-byte_at-ne91.true) refl refl
 
-add-expect-exactly : tie.Need-overflow-add-expect-exactly
-add-expect-exactly c = omega (arith, inside (text c.before) _ (sym c.before.byte_at.ensures ∙ c.if1.false) (lit< tt))
+add-expect-exactly : tie.Need-overflow_add-q
+add-expect-exactly c = omega (arith, inside (text c.before) _ (sym c.byte_at.ensures ∙ c.if-byte_at-ne91.false) (lit< tt))
 
-expect-exactly-requires : tie.Need-expect-exactly-requires
+expect-exactly-requires : tie.Need-expect_exactly-ampersand-requires
 expect-exactly-requires c κs = search rules
 
-enum-known-ampersand : tie.Need-enum-known-ampersand
+enum-known-ampersand : tie.Need-enum_known-ampersand
 enum-known-ampersand c = search rules
 
-enum_told : tie.Need-enum-told
+enum_told : tie.Need-enum_told-1
 enum_told c = search rules
 
-returns-2 : tie.Need-returns-2
+returns-2 : tie.Need-returns-in_default
 returns-2 c =
-    let asked = c.before.before in
+    let asked = c.before in
     let d = asked.before.before in
-    mark-refused (text d) (from d) d.before.skip-blanks.ensures d.byte_at.ensures asked.before.if1.false asked.expect-exactly.ensures c.enum_told.given.1
+    mark-refused (text d) (from d) d.skip_blanks-q.ensures d.byte_at.ensures asked.if-byte_at-ne91.false asked.expect_exactly-ampersand.ensures c.in_default.is
 
-read-letter-requires : tie.Need-read-letter-requires
+read-letter-requires : tie.Need-read_letter-letter-requires
 read-letter-requires c κs = search rules
 
-enum-known-step : tie.Need-enum-known-step
+enum-known-step : tie.Need-enum_known-step
 enum-known-step c = search rules
 
-enum-told-2 : tie.Need-enum-told-2
+enum-told-2 : tie.Need-enum_told-in_default-step
 enum-told-2 c = search rules
 
-returns-3 : tie.Need-returns-3
+returns-3 : tie.Need-returns-in_default-step
 returns-3 c =
-    let letter = c.before.before in
-    let asked = letter.before.before.before.before in
+    let letter = c.before in
+    let asked = letter.before.before in
     let d = asked.before.before in
-    mark-no-letter (text d) (from d) d.before.skip-blanks.ensures d.byte_at.ensures asked.before.if1.false asked.expect-exactly.ensures
-    letter.before.before.ampersand.given.1 letter.read-letter.result letter.read-letter.ensures c.enum-told2.given.1
+    mark-no-letter (text d) (from d) d.skip_blanks-q.ensures d.byte_at.ensures asked.if-byte_at-ne91.false asked.expect_exactly-ampersand.ensures
+    letter.in-Next.is letter.read_letter-letter.result letter.read_letter-letter.ensures c.in_default-step.is
 
-expect-exactly-requires-2 : tie.Need-expect-exactly-requires-2
+expect-exactly-requires-2 : tie.Need-expect_exactly-requires
 expect-exactly-requires-2 c κs = search rules
 
-returns-4 : tie.Need-returns-4
+returns-4 : tie.Need-returns
 returns-4 c =
-    let read = c.before.before in
-    let letter = read.before.before in
-    let asked = letter.before.before.before.before in
+    let read = c.before in
+    let letter = read.before in
+    let asked = letter.before.before in
     let d = asked.before.before in
-    mark-closed (text d) (from d) d.before.skip-blanks.ensures d.byte_at.ensures asked.before.if1.false asked.expect-exactly.ensures
-    letter.before.before.ampersand.given.1 letter.read-letter.result letter.read-letter.ensures read.step.given.1 c.expect-exactly2.ensures
+    mark-closed (text d) (from d) d.skip_blanks-q.ensures d.byte_at.ensures asked.if-byte_at-ne91.false asked.expect_exactly-ampersand.ensures
+    letter.in-Next.is letter.read_letter-letter.result letter.read_letter-letter.ensures read.in-Next-step.is c.expect_exactly.ensures
 
-pub read-mark-spec : {M : Type 1} → statement M
-read-mark-spec =
+pub read_mark_spec : {M : Type 1} → statement M
+read_mark_spec =
     tie.close
     (tie.spec
     skip-blanks-requires

@@ -14,107 +14,99 @@ use Rattle.unrooted.proofs.Beside.{Beside, beside-start, beside-leaf, beside-sec
 use Rattle.unrooted.proofs.leftmost.is_turned.Statement.{statement}
 use Rattle.unrooted.proofs.leftmost.is_turned.Tie as tie
 
-abbrev invariant-loop : tie.invariant-loop
+abbrev invariant-loop : tie.invariant-loop-l
 invariant-loop x i y j q node₀ l₀ node l = (s : OrderedAt x i) (t : TurnedAt y j q) → Beside x y j node l (Alike s.tree t.tree)
 
-abbrev decreases-loop : tie.decreases-loop
+abbrev decreases-loop : tie.decreases-loop-l
 decreases-loop x i y j q node₀ l₀ node l = l
 
-loop-holds : tie.Need-loop-init invariant-loop decreases-loop
+loop-holds : tie.Need-loop-l-init invariant-loop decreases-loop
 loop-holds c = beside-start
 
-abbrev start : tie.At-loop invariant-loop decreases-loop → tie.Start invariant-loop decreases-loop
+abbrev start : tie.At-loop-l invariant-loop decreases-loop → tie.Start invariant-loop decreases-loop
 start c = c.before.before.before
 
 -- what the invariant says of the trees that were asked for
-abbrev beside : (c : tie.At-loop invariant-loop decreases-loop) → let a = (start c).args in let (s, t) = (start c).requires in
-    Beside a.x.now a.y.now a.j c.loop.node c.loop.l (Alike s.tree t.tree)
-beside c = c.loop.invariant (start c).requires.0 (start c).requires.1
+abbrev beside : (c : tie.At-loop-l invariant-loop decreases-loop) → let a = c.args in let (s, t) = c.requires in
+    Beside a.x.now a.y.now a.j c.loop-l.node c.loop-l.l (Alike s.tree t.tree)
+beside c = c.loop-l.invariant c.requires.0 c.requires.1
 
 -- what stands at `node`, and what hangs off l
-held_x : (c : tie.At-loop invariant-loop decreases-loop) → Held (start c).args.x.now c.loop.node
+held_x : (c : tie.At-loop-l invariant-loop decreases-loop) → Held c.args.x.now c.loop-l.node
 held_x c = let t = (beside c).tree in record { tree = t.tree; holds = t.holds }
 
-fork-y : (c : tie.At-loop invariant-loop decreases-loop) → HeldFork (start c).args.y.now c.loop.l
+fork-y : (c : tie.At-loop-l invariant-loop decreases-loop) → HeldFork c.args.y.now c.loop-l.l
 fork-y c = fork_at (beside c).turned
 
-shared-slice-read-if1 : tie.Need-shared-slice-read-if1 invariant-loop decreases-loop
+shared-slice-read-if1 : tie.Need-bounds-x-node invariant-loop decreases-loop
 shared-slice-read-if1 c = within (held_x c.before.before).holds
 
-returns : tie.Need-returns invariant-loop decreases-loop
-returns c s t = let turn = c.before.before in beside-leaf (turn.before.loop.invariant s t) turn.loop-test.true c.if1.true
+returns : tie.Need-returns-then-x-node-le-FORK invariant-loop decreases-loop
+returns c s t = beside-leaf (c.loop-l.invariant s t) c.loop-l-test.true c.if-x-node-le-FORK.true
 
 -- the tree at `node` is a fork
-abbrev head : tie.Else1 invariant-loop decreases-loop → tie.At-loop invariant-loop decreases-loop
+abbrev head : tie.Else-x-node-le-FORK invariant-loop decreases-loop → tie.At-loop-l invariant-loop decreases-loop
 head c = c.before.before.before
 
-fork-x : (c : tie.Else1 invariant-loop decreases-loop) → HeldFork (start (head c)).args.x.now (head c).loop.node
-fork-x c = held-fork (fork-of (beside (head c)).tree c.if1.false).ordered
+fork-x : (c : tie.Else-x-node-le-FORK invariant-loop decreases-loop) → HeldFork c.args.x.now c.loop-l.node
+fork-x c = held-fork (fork-of (beside (head c)).tree c.if-x-node-le-FORK.false).ordered
 
-add-first : tie.Need-overflow-add-first invariant-loop decreases-loop
+add-first : tie.Need-overflow_add-first invariant-loop decreases-loop
 add-first c = omega (arith, within (fork-x c).holds)
 
-second-child-requires : tie.Need-second-child-requires invariant-loop decreases-loop
+second-child-requires : tie.Need-second_child-second-requires invariant-loop decreases-loop
 second-child-requires c κs = fork-x c
 
-second-child-requires-2 : tie.Need-second-child-requires-2 invariant-loop decreases-loop
+second-child-requires-2 : tie.Need-second_child-off-requires invariant-loop decreases-loop
 second-child-requires-2 c κs = fork-y (head c.before)
 
 -- what hangs off l
-off-held : (c : tie.After-second-child2 invariant-loop decreases-loop) → Held (start (head c.before.before)).args.y.now c.second-child2.result
-off-held c = second-held c.second-child2.ensures (fork-y (head c.before.before))
+off-held : (c : tie.After-second_child-off invariant-loop decreases-loop) → Held c.args.y.now c.second_child-off.result
+off-held c = second-held c.second_child-off.ensures (fork-y (head c.before.before))
 
-same-subtree-requires : tie.Need-same-subtree-requires invariant-loop decreases-loop
+same-subtree-requires : tie.Need-same_subtree-requires invariant-loop decreases-loop
 same-subtree-requires c κs = (first-held (fork-x c.before.before), off-held c)
 
-same-subtree-requires-2 : tie.Need-same-subtree-requires-2 invariant-loop decreases-loop
+same-subtree-requires-2 : tie.Need-same_subtree-requires-else-same_subtree invariant-loop decreases-loop
 same-subtree-requires-2 c κs =
     let d = c.before.before in
-    (second-held d.before.second-child.ensures (fork-x d.before.before), off-held d)
+    (second-held c.second_child-second.ensures (fork-x d.before.before), off-held d)
 
-returns-2 : tie.Need-returns-2 invariant-loop decreases-loop
+returns-2 : tie.Need-returns-else-same_subtree-2 invariant-loop decreases-loop
 returns-2 c s t =
-    let two = c.before in
-    let one = two.before.before in
-    let d = one.before in
-    let e = d.before.before in
-    beside_none ((head e).loop.invariant s t) e.before.before.loop-test.true e.if1.false d.before.second-child.ensures d.second-child2.ensures
-    two.same-subtree2.result two.same-subtree2.ensures one.same-subtree.result one.same-subtree.ensures two.before.if2.false c.if3.false
+    beside_none (c.loop-l.invariant s t) c.loop-l-test.true c.if-x-node-le-FORK.false c.second_child-second.ensures c.second_child-off.ensures
+    c.same_subtree-else-same_subtree.result c.same_subtree-else-same_subtree.ensures c.same_subtree.result c.same_subtree.ensures c.if-same_subtree.false c.if-same_subtree-2.false
 
 -- the path goes on above l
-higher : (c : tie.Joined2 invariant-loop decreases-loop) → let e = c.before.before.before.before in (start (head e)).args.j < (head e).loop.l
-higher c = c.before.before.before.before.before.before.loop-test.true
+higher : (c : tie.Joined-same_subtree invariant-loop decreases-loop) → c.args.j < c.loop-l.l
+higher c = c.loop-l-test.true
 
-sub-l : tie.Need-overflow-sub-l invariant-loop decreases-loop
+sub-l : tie.Need-overflow_sub-l invariant-loop decreases-loop
 sub-l c = omega (arith, higher c)
 
-loop-less : tie.Need-loop-smaller invariant-loop decreases-loop
+loop-less : tie.Need-loop-l-smaller invariant-loop decreases-loop
 loop-less c = omega (arith, higher c)
 
-loop-again : tie.Need-loop-preserved invariant-loop decreases-loop
+loop-again : tie.Need-loop-l-preserved invariant-loop decreases-loop
 loop-again c s t =
-    let one = c.before in
-    let d = one.before in
-    let e = d.before.before in
-    let B = (head e).loop.invariant s t in
+    let B = c.loop-l.invariant s t in
     ⊎_elim
-    (λ w. rw w.1 (beside-second B (higher c) e.if1.false d.before.second-child.ensures d.second-child2.ensures one.same-subtree.result one.same-subtree.ensures w.0.taken))
-    (λ w. rw w.3 (beside_first B (higher c) e.if1.false d.before.second-child.ensures d.second-child2.ensures w.1.result w.1.ensures w.2.taken))
-    c.if2.branch
+    (λ w. rw w.node-is (beside-second B (higher c) c.if-x-node-le-FORK.false c.second_child-second.ensures c.second_child-off.ensures c.same_subtree.result c.same_subtree.ensures w.if-same_subtree.true))
+    (λ w. rw w.node-is (beside_first B (higher c) c.if-x-node-le-FORK.false c.second_child-second.ensures c.second_child-off.ensures w.same_subtree-else-same_subtree.result w.same_subtree-else-same_subtree.ensures w.if-same_subtree-2.true))
+    c.if-same_subtree.branch-raw
 
-second-child-requires-3 : tie.Need-second-child-requires-3 invariant-loop decreases-loop
+second-child-requires-3 : tie.Need-second_child-requires invariant-loop decreases-loop
 second-child-requires-3 c κs = fork-y c.before
 
-same-subtree-requires-3 : tie.Need-same-subtree-requires-3 invariant-loop decreases-loop
-same-subtree-requires-3 c κs = let loop = c.before.before in (held_x loop, second-held c.second-child3.ensures (fork-y loop))
+same-subtree-requires-3 : tie.Need-same_subtree-requires-2 invariant-loop decreases-loop
+same-subtree-requires-3 c κs = let loop = c.before.before in (held_x loop, second-held c.second_child.ensures (fork-y loop))
 
-returns-3 : tie.Need-returns-3 invariant-loop decreases-loop
+returns-3 : tie.Need-returns invariant-loop decreases-loop
 returns-3 c s t =
-    let w = c.before in
-    beside_end (w.before.before.loop.invariant s t) w.before.loop-test.false w.second-child3.ensures c.same-subtree3.result c.same-subtree3.ensures
+    beside_end (c.loop-l.invariant s t) c.loop-l-test.false c.second_child.ensures c.same_subtree-2.result c.same_subtree-2.ensures
 
-pub is-turned-spec : {M : Type 1} → statement M
-is-turned-spec =
+pub is_turned_spec : {M : Type 1} → statement M
+is_turned_spec =
     tie.close
     (tie.spec
     invariant-loop

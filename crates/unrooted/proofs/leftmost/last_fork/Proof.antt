@@ -9,39 +9,39 @@ use Rattle.unrooted.proofs.Path.{Going, starts, goes_on, ends}
 use Rattle.unrooted.proofs.leftmost.last_fork.Statement.{statement}
 use Rattle.unrooted.proofs.leftmost.last_fork.Tie as tie
 
-abbrev invariant-loop : tie.invariant-loop
+abbrev invariant-loop : tie.invariant-loop-p
 invariant-loop n k p₀ p = (t : OrderedFork n k) → Going n k p (whole t)
 
-abbrev decreases-loop : tie.decreases-loop
+abbrev decreases-loop : tie.decreases-loop-p
 decreases-loop n k p₀ p = length n - p
 
-loop-holds : tie.Need-loop-init invariant-loop decreases-loop
+loop-holds : tie.Need-loop-p-init invariant-loop decreases-loop
 loop-holds c = starts
 
 -- the first child of p is in the array
-fits : (c : tie.At-loop invariant-loop decreases-loop) → c.loop.p + 1 < length c.before.args.n.now
-fits c = within (c.loop.invariant c.before.requires).holds
+fits : (c : tie.At-loop-p invariant-loop decreases-loop) → c.loop-p.p + 1 < length c.args.n.now
+fits c = within (c.loop-p.invariant c.requires).holds
 
-add-if1 : tie.Need-overflow-add-if1 invariant-loop decreases-loop
+add-if1 : tie.Need-overflow_add-p invariant-loop decreases-loop
 add-if1 c = omega (arith, fits c)
 
-shared-slice-read-if1 : tie.Need-shared-slice-read-if1 invariant-loop decreases-loop
+shared-slice-read-if1 : tie.Need-bounds-n-p invariant-loop decreases-loop
 shared-slice-read-if1 c = fits c.before
 
-add-p : tie.Need-overflow-add-p invariant-loop decreases-loop
+add-p : tie.Need-overflow_add-p-in-loop-p invariant-loop decreases-loop
 add-p c = omega (arith, fits c.before.before)
 
-loop-less : tie.Need-loop-smaller invariant-loop decreases-loop
+loop-less : tie.Need-loop-p-smaller invariant-loop decreases-loop
 loop-less c = omega (arith, fits c.before.before)
 
-loop-again : tie.Need-loop-preserved invariant-loop decreases-loop
-loop-again c t = goes_on (c.before.before.loop.invariant t) c.if1.true
+loop-again : tie.Need-loop-p-preserved invariant-loop decreases-loop
+loop-again c t = goes_on (c.loop-p.invariant t) c.loop-p-test.true
 
 returns : tie.Need-returns invariant-loop decreases-loop
-returns c t = ends (c.before.before.loop.invariant t) t.in_order c.if1.false
+returns c t = ends (c.loop-p.invariant t) t.in_order c.loop-p-test.false
 
-pub last-fork-spec : {M : Type 1} → statement M
-last-fork-spec =
+pub last_fork_spec : {M : Type 1} → statement M
+last_fork_spec =
     tie.close
     (tie.spec
     invariant-loop

@@ -1,0 +1,21 @@
+-- `pairs::remainders::way_to` meets its contract.
+-- Assumes nothing.
+use native.Mathlib.Omega.{arith}
+use Rattle.held.proofs.Laws.{within}
+use Rattle.pairs.proofs.Left.{cutting-fork, leads_one, leads-two}
+use Rattle.pairs.proofs.remainders.way_to.Goals as goal
+
+pub second_child-second-requires : goal.second_child-second-requires
+second_child-second-requires c = cutting-fork c.requires
+
+pub overflow_add-result : goal.overflow_add-result
+overflow_add-result c = omega (arith, within c.requires.holds)
+
+pub overflow_add-result-else-p-second : goal.overflow_add-result-else-p-second
+overflow_add-result-else-p-second c = omega (arith, within c.requires.holds)
+
+pub returns-then-p-second : goal.returns-then-p-second
+returns-then-p-second c = leads_one c.requires c.second_child-second.ensures c.if-p-second.true
+
+pub returns-else-p-second : goal.returns-else-p-second
+returns-else-p-second c = leads-two c.requires c.second_child-second.ensures c.if-p-second.false
