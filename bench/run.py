@@ -107,9 +107,7 @@ def build_native(crate, called, path):
         subprocess.run([NATIVE, crate, path], check=True)
     except (OSError, subprocess.CalledProcessError) as error:
         raise Failed("the %s cannot be built: %s" % (called, error)) from error
-    machine = platform.machine()
-    how = "as rt makes it" if machine == "x86_64" else "from the LLVM module that rt compiles for x86-64"
-    print("%s: built for %s, %s" % (called, machine, how))
+    print("%s: built for %s, as rt makes it" % (called, platform.machine()))
 
 
 def build_pair_lister(directory):

@@ -3,8 +3,8 @@
 
 PROGRAM is the pair lister; with --islands it is the program of islands. A failed read has to leave standard output
 empty and to be told on standard error. A sheet or a refusal has at least one line, but the sheet of islands of a table
-without trees has none: there standard error has to be empty too. A failed write has to be told on standard error. What
-can be read in pieces is read whole.
+without trees has none: there standard error has to be empty too. A failed write has to be told on standard error. The
+status is 1 where a read or a write failed, and else 0. What can be read in pieces is read whole.
 """
 import argparse
 import os
@@ -38,7 +38,7 @@ class Program(NamedTuple):
 
 
 def run(program, stdin, stdout=subprocess.PIPE, room=None):
-    """Standard output and standard error of one run; a closed stream is given as None.
+    """Standard output, standard error and the status of one run; a closed stream is given as None.
 
     `room` is the number of bytes that a file takes; a write that goes past it is cut short, and the next one fails.
     """
@@ -57,7 +57,7 @@ def run(program, stdin, stdout=subprocess.PIPE, room=None):
     done = subprocess.run(
         [program.path], stdin=given[0], stdout=given[1], stderr=subprocess.PIPE, preexec_fn=prepare, timeout=60
     )
-    return done.stdout, done.stderr
+    return done.stdout, done.stderr, done.returncode
 
 
 def file_of(content):
@@ -86,13 +86,13 @@ def folder(program):
     with tempfile.TemporaryDirectory() as path:
         stdin = os.open(path, os.O_RDONLY)
         try:
-            return run(program, stdin) == (b"", UNREAD)
+            return run(program, stdin) == (b"", UNREAD, 1)
         finally:
             os.close(stdin)
 
 
 def closed_input(program):
-    return run(program, None) == (b"", UNREAD)
+    return run(program, None) == (b"", UNREAD, 1)
 
 
 def input_that_fails_behind_two_trees(program):
@@ -100,7 +100,7 @@ def input_that_fails_behind_two_trees(program):
     os.set_blocking(read, False)
     os.write(write, TREES[:22])
     try:
-        return run(program, read) == (b"", UNREAD)
+        return run(program, read) == (b"", UNREAD, 1)
     finally:
         os.close(read)
         os.close(write)
@@ -112,51 +112,51 @@ def input_in_pieces(program):
         child.stdin.write(TREES[at : at + 5])
         child.stdin.flush()
         time.sleep(0.01)
-    return child.communicate(timeout=60) == (program.sheet, b"")
+    return (*child.communicate(timeout=60), child.returncode) == (program.sheet, b"", 0)
 
 
 def whole_input(program):
-    return run(program, file_of(TREES)) == (program.sheet, b"")
+    return run(program, file_of(TREES)) == (program.sheet, b"", 0)
 
 
 def no_input(program):
-    return run(program, subprocess.DEVNULL) == (program.empty_sheet, b"")
+    return run(program, subprocess.DEVNULL) == (program.empty_sheet, b"", 0)
 
 
 def refusal(program):
-    return run(program, file_of(b"(1,1);")) == (b"refused 3 at 3\n", b"")
+    return run(program, file_of(b"(1,1);")) == (b"refused 3 at 3\n", b"", 0)
 
 
 def full_disk(program):
     with open("/dev/full", "wb") as stdout:
-        return run(program, file_of(TREES), stdout)[1] == UNWRITTEN
+        return run(program, file_of(TREES), stdout)[1:] == (UNWRITTEN, 1)
 
 
 def closed_output(program):
-    return run(program, file_of(TREES), None)[1] == UNWRITTEN
+    return run(program, file_of(TREES), None)[1:] == (UNWRITTEN, 1)
 
 
 def file_that_takes_a_part(program):
     half = len(program.sheet) // 2
     with tempfile.TemporaryFile() as stdout:
-        told = run(program, file_of(TREES), stdout, half)[1]
+        told = run(program, file_of(TREES), stdout, half)[1:]
         stdout.seek(0)
-        return told == UNWRITTEN and stdout.read() == program.sheet[:half]
+        return told == (UNWRITTEN, 1) and stdout.read() == program.sheet[:half]
 
 
 def pipe_that_takes_a_part(program):
     table = full_table()
-    whole, nothing = run(program, file_of(table))
+    whole, *rest = run(program, file_of(table))
     read, write = os.pipe()
     os.set_blocking(write, False)
     try:
-        told = run(program, file_of(table), write)[1]
+        told = run(program, file_of(table), write)[1:]
         os.set_blocking(read, False)
         part = os.read(read, 1 << 20)
     finally:
         os.close(read)
         os.close(write)
-    return nothing == b"" and told == UNWRITTEN and len(part) < len(whole) and whole.startswith(part)
+    return rest == [b"", 0] and told == (UNWRITTEN, 1) and len(part) < len(whole) and whole.startswith(part)
 
 
 CASES = [
