@@ -138,8 +138,8 @@ prints examples/neighbours.txt:
     PYTHONPATH=python python3 examples/neighbours.py <examples/trees.txt
     NORBELATH_LIB_DIR=\$PWD/lib cargo run --manifest-path rust/Cargo.toml --example neighbours <examples/trees.txt
 
-doc/README.md is the README of the repository: what it calls target/bin is bin
-here. doc/docs/RULES.md has the rules, doc/docs/PROMISES.md what is promised and
+doc/README.md is the README of the repository: what it calls target is bin here.
+doc/docs/RULES.md has the rules, doc/docs/PROMISES.md what is promised and
 proved, doc/bindings/README.md the calls, doc/report/README.md the reports.
 The programs and the library need the C library of GNU, glibc 2.34 or newer.
 README
