@@ -66,7 +66,7 @@ trap 'rm -rf "$work" "$unfinished"' EXIT
 top=$work/$name
 mkdir "$top"
 
-quietly rt all check || fail "not every crate is proved"
+quietly rt ci || fail "not every crate is proved"
 kit=$(rt version)
 shared=libnorbelath.so.${version%%.*}
 build pair_lister bin/pair_lister
