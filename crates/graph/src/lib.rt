@@ -83,7 +83,7 @@ pub fn list_pairs(
 {
     held::note_firsts(firsts, table);
     let mut links = [0u8; Links::SIZE];
-    links::link_positions(&mut links, table, firsts, by, copies);
+    links::link_positions(&mut links, &table, firsts, by, copies);
     list_links(pairs, counts, &links, table.len)
 }
 

@@ -10,9 +10,9 @@ use sharing::Links;
 
 // Links the first positions of topologies that are one move apart: distinct trees are exactly when they share a forest
 // (Lemma 2.2 of document 001).
-pub fn link_moves(links: &mut [u8; Links::SIZE], table: Table, firsts: &[u16])
-    requires { FirstsRoom table firsts.now links.old × NoneLinked links.old }
-    ensures { FirstsLinked Move table links.new × (length links.new ≡ link_bytes) }
+pub fn link_moves(links: &mut [u8; Links::SIZE], table: &Table, firsts: &[u16])
+    requires { FirstsRoom table.now firsts.now links.old × NoneLinked links.old }
+    ensures { FirstsLinked Move table.now links.new × (length links.new ≡ link_bytes) }
 {
     let mut nodes = [0u8; Entries::SIZE];
     let mut keys = [0u32; Entries::SIZE];

@@ -37,9 +37,9 @@ pub enum Copies {
 }
 
 // Links the first positions of topologies that are so linked.
-fn link_firsts(links: &mut [u8; Links::SIZE], table: Table, firsts: &[u16], by: Link)
-    requires { FirstsRoom table firsts.now links.old × NoneLinked links.old }
-    ensures { FirstsLinked by table links.new }
+fn link_firsts(links: &mut [u8; Links::SIZE], table: &Table, firsts: &[u16], by: Link)
+    requires { FirstsRoom table.now firsts.now links.old × NoneLinked links.old }
+    ensures { FirstsLinked by table.now links.new }
 {
     match by {
         Link::Move => link_moves(links, table, firsts),
@@ -82,13 +82,13 @@ fn copy_links(links: &mut [u8; Links::SIZE], linked: &[u8; Links::SIZE], firsts:
 // Links the positions of the table's trees that are so linked, with copies merged or kept apart.
 pub fn link_positions(
     links: &mut [u8; Links::SIZE],
-    table: Table,
+    table: &Table,
     firsts: &[u16],
     by: Link,
     copies: Copies,
 )
-    requires { FirstsRoom table firsts.now links.old × NoneLinked links.old }
-    ensures { TreesLinked by copies table links.new }
+    requires { FirstsRoom table.now firsts.now links.old × NoneLinked links.old }
+    ensures { TreesLinked by copies table.now links.new }
 {
     match copies {
         Copies::Merged => link_firsts(links, table, firsts, by),

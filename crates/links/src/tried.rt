@@ -48,9 +48,9 @@ fn linked_firsts(linked: bool, first: bool, test: Test, a: Tree, b: Tree) -> boo
 }
 
 // Links the first positions of topologies that pass the test: each two that are not linked are tried.
-pub fn link_tried(links: &mut [u8; Links::SIZE], table: Table, firsts: &[u16], test: Test)
-    requires { FirstsRoom table firsts.now links.old }
-    ensures { TriedLinked test table links.old links.new }
+pub fn link_tried(links: &mut [u8; Links::SIZE], table: &Table, firsts: &[u16], test: Test)
+    requires { FirstsRoom table.now firsts.now links.old }
+    ensures { TriedLinked test table.now links.old links.new }
 {
     let trees = table.len;
     for i in 0..trees {

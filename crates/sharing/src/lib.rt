@@ -33,9 +33,9 @@ fn lay_row(nodes: &mut [u8], keys: &mut [u32], i: usize, tree: Tree)
 }
 
 // Lays out the rows of the first trees.
-pub fn lay_out(nodes: &mut [u8], keys: &mut [u32], table: Table, firsts: &[u16])
-    requires { LayRoom table firsts.now nodes.old keys.old }
-    ensures { OfTrees table (λ ts. Laid ts nodes.new keys.new) }
+pub fn lay_out(nodes: &mut [u8], keys: &mut [u32], table: &Table, firsts: &[u16])
+    requires { LayRoom table.now firsts.now nodes.old keys.old }
+    ensures { OfTrees table.now (λ ts. Laid ts nodes.new keys.new) }
 {
     for i in 0..table.len {
         if firsts[i] as usize == i {

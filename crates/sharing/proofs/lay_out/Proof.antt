@@ -24,10 +24,10 @@ record LaidOut (table : Table) (nodes keys : List ℕ) (n : ℕ) : Type 0 where
   laid : OfTrees table (λ ts. LaidTo ts nodes keys n)
 
 abbrev invariant-loop : tie.invariant-loop-i
-invariant-loop nodes₀ keys₀ firsts table i₀ i-end nodes keys i = LaidOut table nodes keys i
+invariant-loop nodes₀ keys₀ table firsts i₀ i-end nodes keys i = LaidOut table nodes keys i
 
 abbrev decreases-loop : tie.decreases-loop-i
-decreases-loop nodes₀ keys₀ firsts table i₀ i-end nodes keys i = table.len - i
+decreases-loop nodes₀ keys₀ table firsts i₀ i-end nodes keys i = table.len - i
 
 -- a turn of the loop
 abbrev Turn : Type 0
@@ -42,7 +42,7 @@ at u = u.loop-i.i
 few : (u : Turn) → at u < 160
 few u = let k = u.requires.kept.keeps in omega (arith, u.loop-i-test.true, k.count, k.few)
 
-kept : (u : Turn) → Kept (held_at u.args.table (at u))
+kept : (u : Turn) → Kept (held_at u.args.table.now (at u))
 kept u = kept_at u.requires.kept (at u) u.loop-i-test.true
 
 loop-holds : tie.Need-loop-i-init invariant-loop decreases-loop
@@ -61,11 +61,11 @@ mul-lay-row : tie.Need-offset_bounds-table-i invariant-loop decreases-loop
 mul-lay-row c = omega (arith, few c.before.before.before.before)
 
 element-copy-out-lay-row : tie.Need-bounds-table-i invariant-loop decreases-loop
-element-copy-out-lay-row c = few c.before.before.before.before
+element-copy-out-lay-row c = few c.before.before.before.before.before
 
 lay-row-requires : tie.Need-lay_row-requires invariant-loop decreases-loop
 lay-row-requires c κs =
-    let u = c.before.before.before.before.before in
+    let u = c.before.before.before.before.before.before in
     let inv = c.loop-i.invariant in
     record { kept = kept u; few = few u; nodes_room = inv.nodes_long; keys_room = inv.keys_long }
 

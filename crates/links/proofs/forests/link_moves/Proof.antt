@@ -26,7 +26,7 @@ mul-end : tie.Need-overflow_mul-end
 mul-end c = search rules
 
 -- the entries of a table's trees
-few : (c : tie.Start) → c.args.table.len * 128 ≤ 20480
+few : (c : tie.Start) → c.args.table.now.len * 128 ≤ 20480
 few c = let k = c.requires.0.kept.keeps in omega (arith, k.count, k.few)
 
 note-same-requires : tie.Need-note_same-requires
@@ -38,7 +38,7 @@ slice-aggregate-link-sharing c = search rules
 link-sharing-requires : tie.Need-link_sharing-requires
 link-sharing-requires c κs =
     let laid = c.before.before.before.before.before.before.before.before.before.before in
-    let start = laid.before.before.before.before in
+    let start = laid.before.before.before in
     let k = c.requires.0.kept in
     record {
       trees = k.trees;

@@ -37,16 +37,16 @@ abbrev Onward : Test → Table → ℕ → List ℕ → ℕ → List ℕ → Typ
 Onward test table place links place' links' = (links₀ : List ℕ) → LinkedTo test table links₀ place links → LinkedTo test table links₀ place' links'
 
 abbrev invariant-loop2 : tie.invariant-loop-j
-invariant-loop2 row firsts test table trees i j₀ links j = (i < j) × (j ≤ 160) × Onward test table (i * 160) row (i * 160 + j) links
+invariant-loop2 row table firsts test trees i j₀ links j = (i < j) × (j ≤ 160) × Onward test table (i * 160) row (i * 160 + j) links
 
 abbrev decreases-loop2 : tie.decreases-loop-j
-decreases-loop2 row firsts test table trees i j₀ links j = trees - j
+decreases-loop2 row table firsts test trees i j₀ links j = trees - j
 
 abbrev invariant-loop : tie.invariant-loop-i
-invariant-loop links₀ firsts test table trees i₀ links i = LinkedTo test table links₀ (i * 160) links
+invariant-loop links₀ table firsts test trees i₀ links i = LinkedTo test table links₀ (i * 160) links
 
 abbrev decreases-loop : tie.decreases-loop-i
-decreases-loop links₀ firsts test table trees i₀ links i = trees - i
+decreases-loop links₀ table firsts test trees i₀ links i = trees - i
 
 -- no two trees have their byte between one place and a later one
 passed : {test : Test} {table : Table} {links₀ links : List ℕ} {place place' : ℕ} → place ≤ place' → ((i j : ℕ) → i < j → j < table.len → i * 160 + j < place' → i * 160 + j < place)
