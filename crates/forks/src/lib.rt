@@ -38,7 +38,8 @@ pub fn note_clades(xs: &mut [u64], at: usize, tree: Tree) -> usize
     let nodes = held::width(&n, 0);
     let mut next = at;
     for k in 0..nodes {
-        if n[k] > Tree::FORK {
+        let fork = n[k] > Tree::FORK;
+        if fork {
             xs[next] = m[k];
             next += 1;
         }

@@ -40,7 +40,8 @@ fn list_row(
 {
     let mut next = m;
     for j in i + 1..n {
-        if links[i * Table::MAX_TREES + j] == 1 {
+        let place = i * Table::MAX_TREES + j;
+        if links[place] == 1 {
             next = add_pair(pairs, counts, next, i, j);
         }
     }

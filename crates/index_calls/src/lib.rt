@@ -67,11 +67,13 @@ fn add_read(memory: &mut [u8], tree: Tree, behind: usize) -> AddAnswer
         → add_outcome result memory.new ≡ add_joined hs (got x behind) memory.old }
 {
     let number = slots::first_free(memory);
-    if number == Table::MAX_TREES {
+    let full = number == Table::MAX_TREES;
+    if full {
         return AddAnswer::Refused(refusal_at_zero(Refusal::TOO_MANY_TREES, 0));
     }
     let unlike = unlike_held(memory, tree);
-    if unlike != 0 {
+    let other = unlike != 0;
+    if other {
         return AddAnswer::Refused(Refusal {
             number: unlike,
             text: 0,
@@ -108,7 +110,8 @@ fn has_tree(memory: &[u8], number: usize) -> bool
     requires { Shelves memory.now }
     ensures { (hs : List Slot) → Shelved hs memory.now → Says result (¬ (slot_at hs number ≡ free)) }
 {
-    if Table::MAX_TREES <= number {
+    let over = Table::MAX_TREES <= number;
+    if over {
         return false;
     }
     !slots::is_free(memory, number)

@@ -22,7 +22,8 @@ fn way_to(n: &[u8], k: usize, p: usize) -> Way
     ensures { (t : Topology) → Holds n.now k t → Leads n.now k p result.on result.off t }
 {
     let second = second_child(n, k);
-    if p < second {
+    let leads = p < second;
+    if leads {
         Way {
             on: k + 1,
             off: second,

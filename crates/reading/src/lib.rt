@@ -56,8 +56,10 @@ fn read_node(
     if is_digit(b) {
         return read_label(s, q, node, at, marks);
     }
-    if b == b'(' {
-        if room == 0 {
+    let opens = b == b'(';
+    if opens {
+        let none = room == 0;
+        if none {
             return refuse(Refusal::TOO_DEEP, q);
         }
         return read_fork(s, q + 1, room - 1, node, at, marks);

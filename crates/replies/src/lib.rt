@@ -101,7 +101,8 @@ pub fn hand_back(reply: Reply, first: &mut u64, second: &mut u64) -> u8
 pub fn copies_of(choice: u8) -> Copies
     ensures { choice_of result ≡ choice_coded choice }
 {
-    if choice == 0 {
+    let merges = choice == 0;
+    if merges {
         Copies::Merged
     } else {
         Copies::KeptApart

@@ -44,7 +44,10 @@ fn compare_rows(row: &[u64], other: &[u64]) -> PairAnswer
     requires { (is_row row.now ≡ true) × (is_row other.now ≡ true) }
     ensures { RowPairCall row.now other.now (pair_answer result) }
 {
-    if row[0] != other[0] {
+    let labels = row[0];
+    let others = other[0];
+    let differ = labels != others;
+    if differ {
         return PairAnswer::Refused(refusal_at_zero(Refusal::LABELS_DIFFER, 1));
     }
     pair_answer(pairs::one_move_apart(rows::tree_of(row), rows::tree_of(other)))

@@ -51,7 +51,8 @@ fn grow(
     requires { GrowRoom row.now before.now last.now place c at (length out.old) }
     ensures { (t : Topology) → GrowsTo (drop 1 row.now) c t → Wrote (pre t) out.old out.new at result }
 {
-    if place == 0 {
+    let leaf = place == 0;
+    if leaf {
         out[at] = forks::smallest(c) as u8;
         return at + 1;
     }

@@ -37,10 +37,12 @@ fn joined(x: u64, y: u64) -> u64
     if y == 0 {
         return 0;
     }
-    if x & y != 0 {
+    let shared = x & y != 0;
+    if shared {
         return 0;
     }
-    if u64::trailing_zeros(y) <= u64::trailing_zeros(x) {
+    let swapped = u64::trailing_zeros(y) <= u64::trailing_zeros(x);
+    if swapped {
         return 0;
     }
     x + y
@@ -111,7 +113,8 @@ pub fn are_slots(memory: &[u8]) -> bool
             if common == 0 {
                 common = labels;
             }
-            if labels != common {
+            let other = labels != common;
+            if other {
                 return false;
             }
         }

@@ -85,7 +85,8 @@ pub fn read_table(s: &[u8], takes: Takes) -> TableRead
     let mut table = Table::empty();
     let mut at = tokens::skip_blanks(s, 0);
     while at < s.len() {
-        if table.len == Table::MAX_TREES {
+        let full = table.len == Table::MAX_TREES;
+        if full {
             return refuse(Refusal::TOO_MANY_TREES, at, table);
         }
         let read = reading::read_at(s, at);

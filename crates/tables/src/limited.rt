@@ -17,7 +17,8 @@ fn withheld(s: &[u8], fits: bool) -> u8
     if !fits {
         return Refusal::SHORT_SLICE;
     }
-    if Tree::TEXT_BYTES < s.len() {
+    let long = Tree::TEXT_BYTES < s.len();
+    if long {
         return Refusal::LONG_TEXT;
     }
     0

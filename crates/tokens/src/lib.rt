@@ -82,7 +82,8 @@ fn is_blank(b: u8) -> bool
     if b == b' ' {
         return true;
     }
-    if b == b'\t' {
+    let tab = b == b'\t';
+    if tab {
         return true;
     }
     if b == b'\r' {
@@ -148,7 +149,8 @@ pub fn refuse(number: u8, place: usize) -> Step
 fn bad_label(v: usize) -> bool
     ensures { (w : ℕ) → v ≡ min too_large w → result ≡ bad_label w }
 {
-    if v < 1 {
+    let low = v < 1;
+    if low {
         return true;
     }
     lent::wide(Tree::MAX_LABEL) < v

@@ -30,7 +30,9 @@ fn expect_exactly(s: &[u8], p: usize, b: u8) -> Step
 fn read_letter(s: &[u8], p: usize) -> Marked
     ensures { MarkMeets result (letter_at s.now p) }
 {
-    if super::byte_at(s, p) == b'U' {
+    let b = super::byte_at(s, p);
+    let unrooted = b == b'U';
+    if unrooted {
         return Marked {
             step: Step::Next(p + 1, 0),
             kind: Kind::Unrooted,

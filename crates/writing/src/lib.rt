@@ -71,7 +71,8 @@ fn write_bare(out: &mut [u8], at: usize, n: &[u8], k: usize) -> usize
     requires { Room (λ t. at + length (bare t)) n.now k (length out.old) }
     ensures { (t : Topology) → Holds n.now k t → Wrote (bare t) out.old out.new at result }
 {
-    if n[k] <= Tree::FORK {
+    let leaf = n[k] <= Tree::FORK;
+    if leaf {
         return write_node(out, at, n, k);
     }
     let first = k + 1;

@@ -75,10 +75,10 @@ noted u = u.note.ensures (tree u) (holds u) u.loop-k.k (omega arith) (inside u) 
 long : (u : Turn) → length u.loop-k.xs ≡ length u.args.xs.now
 long u = wrote-length (u.loop-k.invariant (tree u) (holds u)).wrote
 
-room : (c : tie.Then-n-k-gt-FORK invariant-loop decreases-loop) → c.loop-k.next < length c.args.xs.now
+room : (c : tie.Then-fork invariant-loop decreases-loop) → c.loop-k.next < length c.args.xs.now
 room c =
     let u = c.before in
-    let more = noting-fork (u.loop-k.invariant (tree u) (holds u)) (holds u) (inside u) (here u).holds c.if-n-k-gt-FORK.true (clade (here u).tree) refl in
+    let more = noting-fork (u.loop-k.invariant (tree u) (holds u)) (holds u) (inside u) (here u).holds c.if-fork.true (clade (here u).tree) refl in
     omega (arith, noting-room more (canon-good u.requires.kept.keeps.good), u.requires.room)
 
 array-read-if1 : tie.Need-bounds-n-k invariant-loop decreases-loop
@@ -114,9 +114,9 @@ loop-again c t h =
     let same : tree u ≡ t = unique (holds u) h in
     let lt : u.loop-k.k < nodes t = rw (← same) (inside u) in
     ⊎_elim
-    (λ w. rw (w.xs-is, w.next-is) (noting-fork P h lt (here u).holds w.if-n-k-gt-FORK.true _ (noted u)))
-    (λ w. rw (w.xs-is, w.next-is) (noting-leaf P h lt (here u).holds w.if-n-k-gt-FORK.false))
-    c.if-n-k-gt-FORK.branch-raw
+    (λ w. rw (w.xs-is, w.next-is) (noting-fork P h lt (here u).holds w.if-fork.true _ (noted u)))
+    (λ w. rw (w.xs-is, w.next-is) (noting-leaf P h lt (here u).holds w.if-fork.false))
+    c.if-fork.branch-raw
 
 same_length : tie.Need-shape_of-xs invariant-loop decreases-loop
 same_length c =

@@ -30,20 +30,20 @@ add-j c = omega arith
 loop-holds : tie.Need-loop-j-init invariant-loop decreases-loop
 loop-holds c = (omega arith, record { done = []; whole = refl; listed = none-listed })
 
-mul-if1 : tie.Need-overflow_mul-i invariant-loop decreases-loop
+mul-if1 : tie.Need-overflow_mul-place invariant-loop decreases-loop
 mul-if1 c = omega arith
 
-add-if1 : tie.Need-overflow_add-i invariant-loop decreases-loop
+add-if1 : tie.Need-overflow_add-place invariant-loop decreases-loop
 add-if1 c = omega arith
 
-element-copy-out-if1 : tie.Need-bounds-links-i invariant-loop decreases-loop
+element-copy-out-if1 : tie.Need-bounds-links-place invariant-loop decreases-loop
 element-copy-out-if1 c = omega arith
 
 add-pair-requires : tie.Need-add_pair-next-requires invariant-loop decreases-loop
 add-pair-requires c κs =
     let links = c.args.links.now in
     let inside = c.loop-j-test.true in
-    pair-room c.loop-j.invariant.0 inside (next-room c.loop-j.invariant.1 _ (row-takes links _ _ _ inside c.if-links-i-eq1.true) c.requires.1)
+    pair-room c.loop-j.invariant.0 inside (next-room c.loop-j.invariant.1 _ (row-takes links _ _ _ inside c.if-links-place-eq1.true) c.requires.1)
 
 add-j-2 : tie.Need-overflow_step-j-in-loop-j invariant-loop decreases-loop
 add-j-2 c = omega arith
@@ -57,9 +57,9 @@ loop-again c =
     let inside = c.loop-j-test.true in (
       omega arith,
       ⊎_elim
-          (λ w. rw (w.pairs-is, w.counts-is, w.next-is) (part-more c.loop-j.invariant.1 (row-takes links _ _ _ inside w.if-links-i-eq1.true) (pair-listed w.add_pair-next.ensures)))
-          (λ w. rw (w.pairs-is, w.counts-is, w.next-is) (part-more c.loop-j.invariant.1 (row-skips links _ _ _ inside w.if-links-i-eq1.false) none-listed))
-          c.if-links-i-eq1.branch-raw,
+          (λ w. rw (w.pairs-is, w.counts-is, w.next-is) (part-more c.loop-j.invariant.1 (row-takes links _ _ _ inside w.if-links-place-eq1.true) (pair-listed w.add_pair-next.ensures)))
+          (λ w. rw (w.pairs-is, w.counts-is, w.next-is) (part-more c.loop-j.invariant.1 (row-skips links _ _ _ inside w.if-links-place-eq1.false) none-listed))
+          c.if-links-place-eq1.branch-raw,
     )
 
 same_length : tie.Need-shape_of-pairs invariant-loop decreases-loop

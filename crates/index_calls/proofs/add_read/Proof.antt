@@ -22,12 +22,12 @@ first-free-requires c κs = let p = c.requires in valid-shelves p.1 p.0
 refusal-at-zero-requires : tie.Need-refusal_at_zero-requires
 refusal-at-zero-requires c κs = search rules
 
-same_length : tie.Need-shape_of-memory-then-number-eq-MAX_TREES
+same_length : tie.Need-shape_of-memory-then-full
 same_length c = search rules
 
-returns : tie.Need-returns-then-number-eq-MAX_TREES
+returns : tie.Need-returns-then-full
 returns c hs x I k =
-    add-full hs x c.args.behind c.args.memory.now c.first_free-number.result (c.first_free-number.ensures hs (index-shelved c.requires.1 I)) c.if-number-eq-MAX_TREES.true c.refusal_at_zero.ensures
+    add-full hs x c.args.behind c.args.memory.now c.first_free-number.result (c.first_free-number.ensures hs (index-shelved c.requires.1 I)) c.if-full.true c.refusal_at_zero.ensures
 
 unlike-held-requires : tie.Need-unlike_held-unlike-requires
 unlike-held-requires c κs = let p = c.requires in (valid-shelves p.1 p.0, p.2)
@@ -35,7 +35,7 @@ unlike-held-requires c κs = let p = c.requires in (valid-shelves p.1 p.0, p.2)
 sub-t12 : tie.Need-overflow_sub-result
 sub-t12 c = search rules
 
-same-length-2 : tie.Need-shape_of-memory-then-unlike-ne0
+same-length-2 : tie.Need-shape_of-memory-then-other
 same-length-2 c = search rules
 
 -- a number is free, and the line is told
@@ -47,12 +47,12 @@ module _ (u : tie.After-unlike_held-unlike) where
     number_is : u.first_free-number.result ≡ smallest_free hs
     number_is = u.first_free-number.ensures hs (index-shelved start.requires.1 I)
 
-returns-2 : tie.Need-returns-then-unlike-ne0
+returns-2 : tie.Need-returns-then-other
 returns-2 c hs x I k =
     let u = c.before in
     let d = start u in
     let S = index-shelved d.requires.1 I in
-    add-unlike hs x d.args.behind d.args.memory.now c.first_free-number.result (number_is u hs x I k) c.if-number-eq-MAX_TREES.false c.unlike_held-unlike.result (c.unlike_held-unlike.ensures hs x S k) c.if-unlike-ne0.true
+    add-unlike hs x d.args.behind d.args.memory.now c.first_free-number.result (number_is u hs x I k) c.if-full.false c.unlike_held-unlike.result (c.unlike_held-unlike.ensures hs x S k) c.if-other.true
 
 add-requires : tie.Need-add-requires
 add-requires c κs =
@@ -69,8 +69,8 @@ add-requires c κs =
     record {
       slots = hs;
       topology = x.tree;
-      adds = add-room hs x d.args.behind d.args.memory.now c.first_free-number.result (number_is u hs x I k) c.if-number-eq-MAX_TREES.false c.unlike_held-unlike.result (c.unlike_held-unlike.ensures hs x S k)
-          c.if-unlike-ne0.false I d.requires.1 (omega (arith, smallest-le hs, I.trees.many)) k;
+      adds = add-room hs x d.args.behind d.args.memory.now c.first_free-number.result (number_is u hs x I k) c.if-full.false c.unlike_held-unlike.result (c.unlike_held-unlike.ensures hs x S k)
+          c.if-other.false I d.requires.1 (omega (arith, smallest-le hs, I.trees.many)) k;
     }
 
 same-length-3 : tie.Need-shape_of-memory
@@ -86,8 +86,8 @@ returns-3 c hs x I k =
     let few : smallest_free hs ≤ max_trees = omega (arith, smallest-le hs, I.trees.many) in
     let n = number_is u hs x I k in
     let l = c.unlike_held-unlike.ensures hs x S k in
-    let A = add-room hs x d.args.behind d.args.memory.now c.first_free-number.result n c.if-number-eq-MAX_TREES.false c.unlike_held-unlike.result l c.if-unlike-ne0.false I d.requires.1 few k in
-    add_done hs x d.args.behind d.args.memory.now c.first_free-number.result n c.if-number-eq-MAX_TREES.false c.unlike_held-unlike.result l c.if-unlike-ne0.false (c.add.ensures hs x.tree A)
+    let A = add-room hs x d.args.behind d.args.memory.now c.first_free-number.result n c.if-full.false c.unlike_held-unlike.result l c.if-other.false I d.requires.1 few k in
+    add_done hs x d.args.behind d.args.memory.now c.first_free-number.result n c.if-full.false c.unlike_held-unlike.result l c.if-other.false (c.add.ensures hs x.tree A)
 
 pub add_read_spec : {M : Type 1} → statement M
 add_read_spec =

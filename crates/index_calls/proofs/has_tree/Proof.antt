@@ -15,14 +15,14 @@ contrary : (r : Bool) (P : Type 0) → Says r P → Says (not r) (¬ P)
 contrary true P p = λ n. n p
 contrary false P n = n
 
-returns : tie.Need-returns-then-number-ge-MAX_TREES
+returns : tie.Need-returns-then-over
 returns c hs S n =
     let x = c.args.number in
     let (t, e) = some-tree (slot_at hs x) n in
-    omega (arith, held-inside hs x e, S.trees.many, c.if-number-ge-MAX_TREES.true)
+    omega (arith, held-inside hs x e, S.trees.many, c.if-over.true)
 
 is-free-requires : tie.Need-is_free-requires
-is-free-requires c κs = (c.requires, omega (arith, c.if-number-ge-MAX_TREES.false))
+is-free-requires c κs = (c.requires, omega (arith, c.if-over.false))
 
 returns-2 : tie.Need-returns
 returns-2 c hs S = contrary c.is_free.result (slot_at hs c.args.number ≡ free) (c.is_free.ensures hs S)

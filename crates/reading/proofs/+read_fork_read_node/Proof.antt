@@ -238,18 +238,18 @@ read-node-returns t c =
 read-node-refuse-requires : (t : ℕ) → read-node-lts.Need-refuse-requires (node-claims t) (read-node-at t) read-node.Post
 read-node-refuse-requires t c κs = search rules
 
-read-node-returns-2 : (t : ℕ) → read-node-lts.Need-returns-then-room-eq0 (node-claims t) (read-node-at t) read-node.Post
+read-node-returns-2 : (t : ℕ) → read-node-lts.Need-returns-then-none (node-claims t) (read-node-at t) read-node.Post
 read-node-returns-2 t c =
     let d = c.before.before.before in
     let a = d.args in
     via-deep a.s.now a.from d.skip_blanks-q.ensures d.byte_at-b.ensures d.is_digit.ensures
-    a.room d.if-is_digit.false c.if-b-eq40.true c.if-room-eq0.true c.refuse.ensures refl
+    a.room d.if-is_digit.false c.if-opens.true c.if-none.true c.refuse.ensures refl
 
 -- the bracket is in the text
-bracket-in : (t : ℕ) (c : read-node-lts.Else-room-eq0 (node-claims t) (read-node-at t) read-node.Post)
+bracket-in : (t : ℕ) (c : read-node-lts.Else-none (node-claims t) (read-node-at t) read-node.Post)
     → c.skip_blanks-q.result < length c.args.s.now
 bracket-in t c = inside c.args.s.now
-    c.skip_blanks-q.result (sym c.byte_at-b.ensures ∙ c.if-b-eq40.true) (lit< tt)
+    c.skip_blanks-q.result (sym c.byte_at-b.ensures ∙ c.if-opens.true) (lit< tt)
 
 read-node-add-read-fork : (t : ℕ) → read-node-lts.Need-overflow_add-q (node-claims t) (read-node-at t) read-node.Post
 read-node-add-read-fork t c = omega (arith, bracket-in t c)
@@ -263,20 +263,20 @@ read-node-read-fork-requires t c κs =
     let a = start.args in
     let k = c.before.before in
     let e = k.skip_blanks-q.ensures in (
-      bracket-takes a.room a.s.now a.from _ start.requires.0 k.if-room-eq0.false e (bracket-in t k),
-      less-room start.requires.1 (omega (arith, k.if-room-eq0.false)),
+      bracket-takes a.room a.s.now a.from _ start.requires.0 k.if-none.false e (bracket-in t k),
+      less-room start.requires.1 (omega (arith, k.if-none.false)),
     )
 
-read-node-same-length-2 : (t : ℕ) → read-node-lts.Need-shape_of-node-then-b-eq40 (node-claims t) (read-node-at t) read-node.Post
+read-node-same-length-2 : (t : ℕ) → read-node-lts.Need-shape_of-node-then-opens (node-claims t) (read-node-at t) read-node.Post
 read-node-same-length-2 t c = c.read_fork.ensures.same
 
-read-node-returns-3 : (t : ℕ) → read-node-lts.Need-returns-then-b-eq40 (node-claims t) (read-node-at t) read-node.Post
+read-node-returns-3 : (t : ℕ) → read-node-lts.Need-returns-then-opens (node-claims t) (read-node-at t) read-node.Post
 read-node-returns-3 t c =
     let e = c.before.before.before.before.before in
     let d = e.before.before in
     let a = d.args in
     via-fork a.s.now a.from d.skip_blanks-q.ensures d.byte_at-b.ensures d.is_digit.ensures
-    a.room d.if-is_digit.false e.if-b-eq40.true e.if-room-eq0.false c.read_fork.ensures
+    a.room d.if-is_digit.false e.if-opens.true e.if-none.false c.read_fork.ensures
 
 read-node-refuse-requires-2 : (t : ℕ) → read-node-lts.Need-refuse-requires-2 (node-claims t) (read-node-at t) read-node.Post
 read-node-refuse-requires-2 t c κs = search rules
@@ -286,7 +286,7 @@ read-node-returns-4 t c =
     let d = c.before.before in
     let a = d.args in
     via-wrong a.s.now a.from d.skip_blanks-q.ensures d.byte_at-b.ensures d.is_digit.ensures
-    a.room d.if-is_digit.false c.if-b-eq40.false c.refuse-2.ensures refl
+    a.room d.if-is_digit.false c.if-opens.false c.refuse-2.ensures refl
 
 pub +read_fork_read_node_spec : {M : Type 1} → statement M
 +read_fork_read_node_spec = close μ-read-fork μ-read-node (λ t. read-fork-lts.spec (fork-claims t)

@@ -12,11 +12,11 @@ apart : (n : ℕ) → (n ≡ 0 → ⊥) → kept_apart ≡ choice_coded n
 apart zero h = absurd (h refl)
 apart (suc n) h = refl
 
-returns : tie.Need-returns-then-choice-eq0
-returns c = rw c.if-choice-eq0.true
+returns : tie.Need-returns-then-merges
+returns c = rw c.if-merges.true
 
-returns-2 : tie.Need-returns-else-choice-eq0
-returns-2 c = apart c.args.choice c.if-choice-eq0.false
+returns-2 : tie.Need-returns-else-merges
+returns-2 c = apart c.args.choice c.if-merges.false
 
 pub copies_of_spec : {M : Type 1} → statement M
 copies_of_spec = tie.close (tie.spec returns returns-2)

@@ -14,9 +14,9 @@ shared-slice-read-if1-2 c = row-some c.args.other.now c.requires.1
 refusal-at-zero-requires : tie.Need-refusal_at_zero-requires
 refusal-at-zero-requires c κs = search rules
 
-returns : tie.Need-returns-then-row-other
+returns : tie.Need-returns-then-differ
 returns c =
-    labels-differ c.args.row.now c.args.other.now c.requires.0 c.requires.1 c.if-row-other.true c.refusal_at_zero.ensures
+    labels-differ c.args.row.now c.args.other.now c.requires.0 c.requires.1 c.if-differ.true c.refusal_at_zero.ensures
 
 tree-of-requires : tie.Need-tree_of-requires
 tree-of-requires c κs = search rules
@@ -32,7 +32,7 @@ pair-answer-requires c κs = search rules
 
 returns-2 : tie.Need-returns
 returns-2 c =
-    rows_told c.args.row.now c.args.other.now c.requires.0 c.requires.1 c.if-row-other.false c.one_move_apart.result
+    rows_told c.args.row.now c.args.other.now c.requires.0 c.requires.1 c.if-differ.false c.one_move_apart.result
     (c.one_move_apart.ensures _ _ c.tree_of.ensures.keeps c.tree_of-2.ensures.keeps) c.pair_answer.ensures
 
 pub compare_rows_spec : {M : Type 1} → statement M

@@ -17,17 +17,17 @@ returns c = unfit refl (λ f. omega (arith, f.some_first))
 returns-2 : tie.Need-returns-then-y-eq0
 returns-2 c = unfit refl (λ f. omega (arith, f.some_second))
 
-returns-3 : tie.Need-returns-then-x-y-ne0
-returns-3 c = let a = c.args in unfit refl (λ f. omega (arith, (T-eq (bit_and a.x a.y) 0).0 f.apart, c.if-x-y-ne0.true))
+returns-3 : tie.Need-returns-then-shared
+returns-3 c = let a = c.args in unfit refl (λ f. omega (arith, (T-eq (bit_and a.x a.y) 0).0 f.apart, c.if-shared.true))
 
-returns-4 : tie.Need-returns-then-y-x
+returns-4 : tie.Need-returns-then-swapped
 returns-4 c = unfit refl (λ f. omega (arith, f.smaller))
 
 -- no label is in both
-apart : (c : tie.Else-y-x) → let a = c.args in T (disjoint a.x a.y)
+apart : (c : tie.Else-swapped) → let a = c.args in T (disjoint a.x a.y)
 apart c =
     let a = c.args in
-    let e : bit_and a.x a.y ≡ 0 = omega (arith, c.if-x-y-ne0.false) in
+    let e : bit_and a.x a.y ≡ 0 = omega (arith, c.if-shared.false) in
     (T-eq (bit_and a.x a.y) 0).1 e
 
 add-result : tie.Need-overflow_add-result

@@ -38,9 +38,9 @@ loop-holds c = start _ _ _ _ c.empty-table.ensures c.skip_blanks-at.ensures
 refuse-requires : tie.Need-refuse-requires invariant-loop decreases-loop
 refuse-requires c κs = search rules
 
-returns : tie.Need-returns-then-table-eq-MAX_TREES invariant-loop decreases-loop
+returns : tie.Need-returns-then-full invariant-loop decreases-loop
 returns c =
-    at-full c.loop-at.invariant c.loop-at-test.true (omega (arith, c.if-table-eq-MAX_TREES.true)) c.refuse.ensures
+    at-full c.loop-at.invariant c.loop-at-test.true (omega (arith, c.if-full.true)) c.refuse.ensures
 
 read-at-requires : tie.Need-read_at-read-requires invariant-loop decreases-loop
 read-at-requires c κs = search rules
@@ -53,7 +53,7 @@ enum_told c = search rules
 
 returns-2 : tie.Need-returns-in_default invariant-loop decreases-loop
 returns-2 c =
-    at-refused c.loop-at.invariant c.loop-at-test.true c.if-table-eq-MAX_TREES.false c.read_at-read.ensures c.in_default.is
+    at-refused c.loop-at.invariant c.loop-at-test.true c.if-full.false c.read_at-read.ensures c.in_default.is
 
 -- what is known of a tree that was read
 tree-read : (c : tie.In-Next invariant-loop decreases-loop)
@@ -61,7 +61,7 @@ tree-read : (c : tie.In-Next invariant-loop decreases-loop)
     TreeIn (taken (head read)) (text (head read)) read.loop-at.table read.loop-at.at read.read_at-read.result c.in-Next.p
 tree-read c =
     let read = c.before in
-    tree-in read.loop-at.invariant read.loop-at-test.true read.if-table-eq-MAX_TREES.false read.read_at-read.ensures c.in-Next.is
+    tree-in read.loop-at.invariant read.loop-at-test.true read.if-full.false read.read_at-read.ensures c.in-Next.is
 
 like-first-requires : tie.Need-like_first-line-requires invariant-loop decreases-loop
 like-first-requires c κs =

@@ -21,16 +21,16 @@ held_down most v w e h = by (dec_le w max_label)
     by (yes l) = rw (le-ltb most v (omega arith), le-ltb max_label w l)
     by (no l) = rw (lt-ltb most v (omega arith), lt-ltb max_label w (omega arith))
 
-returns : tie.Need-returns-then-v-lt1
+returns : tie.Need-returns-then-low
 unfolding bad_label
-returns c w e = rw (lt-ltb w 1 (omega (arith, c.if-v-lt1.true)))
+returns c w e = rw (lt-ltb w 1 (omega (arith, c.if-low.true)))
 
 wide-requires : tie.Need-wide-requires
 wide-requires c κs = search rules
 
 returns-2 : tie.Need-returns
 unfolding bad_label
-returns-2 c w e = rw (le-ltb w 1 (omega (arith, c.if-v-lt1.false))) (held_down _ _ w c.wide.ensures e)
+returns-2 c w e = rw (le-ltb w 1 (omega (arith, c.if-low.false))) (held_down _ _ w c.wide.ensures e)
 
 pub bad_label_spec : {M : Type 1} → statement M
 bad_label_spec = tie.close (tie.spec returns wide-requires returns-2)

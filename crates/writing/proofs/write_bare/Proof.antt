@@ -22,24 +22,24 @@ shared-slice-read-if1 c = within c.requires.holds
 write-node-requires : tie.Need-write_node-requires
 write-node-requires c κs =
     let p = c.requires in
-    record { tree = p.tree; holds = p.holds; room = omega (arith, p.room, ap length (leaf-bare p.holds c.if-n-k-le-FORK.true)) }
+    record { tree = p.tree; holds = p.holds; room = omega (arith, p.room, ap length (leaf-bare p.holds c.if-leaf.true)) }
 
-same_length : tie.Need-shape_of-out-then-n-k-le-FORK
+same_length : tie.Need-shape_of-out-then-leaf
 same_length c = search rules
 
-returns : tie.Need-returns-then-n-k-le-FORK
+returns : tie.Need-returns-then-leaf
 returns c =
     let o = c.before.before in
-    λ t h. rw (leaf-bare h o.if-n-k-le-FORK.true) (o.write_node.ensures t h)
+    λ t h. rw (leaf-bare h o.if-leaf.true) (o.write_node.ensures t h)
 
 -- it is a fork, and there is room for both its children
-abbrev start : tie.Else-n-k-le-FORK → tie.Start
+abbrev start : tie.Else-leaf → tie.Start
 start c = c.before.before.before.before
 
-fork-of : (c : tie.Else-n-k-le-FORK) → ForkAt c.args.n.now c.args.k c.requires.tree
-fork-of c = forked c.requires.holds c.if-n-k-le-FORK.false
+fork-of : (c : tie.Else-leaf) → ForkAt c.args.n.now c.args.k c.requires.tree
+fork-of c = forked c.requires.holds c.if-leaf.false
 
-room_of : (c : tie.Else-n-k-le-FORK) → c.args.at + (length (write (fork-of c).first) + 1 + length (write (fork-of c).second)) ≤ length c.args.out.now
+room_of : (c : tie.Else-leaf) → c.args.at + (length (write (fork-of c).first) + 1 + length (write (fork-of c).second)) ≤ length c.args.out.now
 room_of c = omega (arith, c.requires.room, bare-room (fork-of c))
 
 add-first : tie.Need-overflow_add-first

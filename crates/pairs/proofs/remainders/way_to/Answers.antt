@@ -11,11 +11,11 @@ second_child-second-requires c = cutting-fork c.requires
 pub overflow_add-result : goal.overflow_add-result
 overflow_add-result c = omega (arith, within c.requires.holds)
 
-pub overflow_add-result-else-p-second : goal.overflow_add-result-else-p-second
-overflow_add-result-else-p-second c = omega (arith, within c.requires.holds)
+pub overflow_add-result-else-leads : goal.overflow_add-result-else-leads
+overflow_add-result-else-leads c = omega (arith, within c.requires.holds)
 
-pub returns-then-p-second : goal.returns-then-p-second
-returns-then-p-second c = leads_one c.requires c.second_child-second.ensures c.if-p-second.true
+pub returns-then-leads : goal.returns-then-leads
+returns-then-leads c = leads_one c.requires c.second_child-second.ensures c.if-leads.true
 
-pub returns-else-p-second : goal.returns-else-p-second
-returns-else-p-second c = leads-two c.requires c.second_child-second.ensures c.if-p-second.false
+pub returns-else-leads : goal.returns-else-leads
+returns-else-leads c = leads-two c.requires c.second_child-second.ensures c.if-leads.false

@@ -84,20 +84,20 @@ module _ (t : ℕ) where
   add-result : lts.Need-overflow_add-result claims here own.Post
   add-result c = let h = room c.before.before in search (rules, h)
 
-  same_length : lts.Need-shape_of-out-then-place-eq0 claims here own.Post
+  same_length : lts.Need-shape_of-out-then-leaf claims here own.Post
   same_length c = simp length-set
 
-  returns : lts.Need-returns-then-place-eq0 claims here own.Post
+  returns : lts.Need-returns-then-leaf claims here own.Post
   returns c =
-      let one = c.requires.1.placed.alone (omega (arith, c.if-place-eq0.true)) in
+      let one = c.requires.1.placed.alone (omega (arith, c.if-leaf.true)) in
       λ u g. leaf-written u g (omega (arith, one)) c.smallest.ensures c.args.out.now c.args.at
 
   -- two labels or more
   abbrev More : Type 0
-  More = lts.Else-place-eq0 claims here own.Post
+  More = lts.Else-leaf claims here own.Post
 
   stands : (m : More) → 0 < m.args.place
-  stands m = omega (arith, m.if-place-eq0.false)
+  stands m = omega (arith, m.if-leaf.false)
 
   element-copy-out-first : lts.Need-bounds-before-place claims here own.Post
   element-copy-out-first c =
