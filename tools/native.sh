@@ -1,8 +1,8 @@
 #!/usr/bin/env bash
-# Builds a proved crate for x86-64 Linux: native.sh CRATE OUT. OUT is a program where the crate has a main.rt, and else a
-# library of its exported functions: a shared one where OUT is named FILE.so or FILE.so.N, which is then its soname, and
-# else a static one. Needs the Rattle kit (rt on the PATH), and cc for a shared library. What is not proved yet is proved
-# first: nothing unproved is built.
+# Builds a proved crate for x86-64 Linux: native.sh CRATE OUT. OUT is a program where the crate has a main.rt, and else,
+# where crates.txt lists it as a staticlib, a library of its exported functions: a shared one where OUT is named FILE.so or
+# FILE.so.N, which is then its soname, and else a static one. Needs the Rattle kit (rt on the PATH), and cc for a shared
+# library. What is not proved yet is proved first: nothing unproved is built.
 set -euo pipefail
 [ $# -eq 2 ] || { echo "usage: $0 CRATE OUT" >&2; exit 2; }
 command -v rt >/dev/null || { echo "rt: command not found; the Rattle kit is needed" >&2; exit 127; }

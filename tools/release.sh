@@ -1,7 +1,7 @@
 #!/usr/bin/env bash
 # Makes the archive of a release: release.sh FOLDER writes FOLDER/norbelath-VERSION-MACHINE-SYSTEM.tar.gz and prints its
 # path. The archive is of a commit, and of a proved one: a work tree that is not the commit, a version that is not the same
-# everywhere, and a crate that does not prove are refused, with a message on standard error, status 1 and no archive.
+# everywhere, and crates that rt ci does not pass are refused, with a message on standard error, status 1 and no archive.
 # A commit gives the same bytes each time on the same machine with the same kit.
 # Needs the Rattle kit (rt on the PATH), git, cc, GNU tar and gzip.
 set -euo pipefail
@@ -138,10 +138,12 @@ prints examples/neighbours.txt:
     PYTHONPATH=python python3 examples/neighbours.py <examples/trees.txt
     NORBELATH_LIB_DIR=\$PWD/lib cargo run --manifest-path rust/Cargo.toml --example neighbours <examples/trees.txt
 
-doc/README.md is the README of the repository: what it calls target is bin here.
-doc/docs/RULES.md has the rules, doc/docs/PROMISES.md what is promised and
-proved, doc/bindings/README.md the calls, doc/report/README.md the reports.
-The programs and the library need the C library of GNU, glibc 2.34 or newer.
+doc/README.md is the README of the repository: the programs that it builds into
+target are in bin here. doc/docs/RULES.md has the rules, doc/docs/PROMISES.md
+what is promised and proved, doc/bindings/README.md the calls, and
+doc/report/README.md the reports.
+The programs and the library need a processor of x86-64-v2 (SSE4.2, POPCNT), and
+the C library of GNU, glibc 2.34 or newer.
 README
 
 (cd "$top" && find . -type f -printf '%P\n' | sort | xargs -d '\n' sha256sum) >"$work/sums"

@@ -72,8 +72,8 @@ fn add_read(memory: &mut [u8], tree: Tree, behind: usize) -> AddAnswer
         return AddAnswer::Refused(refusal_at_zero(Refusal::TOO_MANY_TREES, 0));
     }
     let unlike = unlike_held(memory, tree);
-    let other = unlike != 0;
-    if other {
+    let differs = unlike != 0;
+    if differs {
         return AddAnswer::Refused(Refusal {
             number: unlike,
             text: 0,

@@ -9,7 +9,7 @@ use native.Mathlib.Omega.{arith}
 use native.Mathlib.Decide.{ℕ_discrete}
 use borrow.Author.Tests.{eq-eqb, ne_eqb, eqb-true}
 use lib.Dec.{eqb}
-use lib.ListN.{length, get_or}
+use lib.ListN.{length, get_or, replicate, length-replicate}
 use Rattle.meaning.specs.Limits.{max_trees}
 use Rattle.meaning.specs.Tree.{Tree as Topology, AllGood}
 use Rattle.meaning.specs.Listing.{At}
@@ -23,7 +23,8 @@ use Rattle.links.specs.Link.{Linked, Tried}
 use Rattle.links.specs.declared.Link.{Link}
 use Rattle.links.specs.declared.Link.TheVariants.{Move, UnrootedMove, Interchange}
 use Rattle.links.specs.declared.Test.TheVariants.{Respun, Interchanged}
-use Rattle.sharing.specs.Links.{LinkedIn, Shows}
+use Rattle.lent.proofs.Tallies.{zeros-at}
+use Rattle.sharing.specs.Links.{LinkedIn, Shows, link_bytes}
 use Rattle.sharing.specs.Firsts.{FirstsNoted}
 use Rattle.links.specs.Copies.{link_of, FirstsRoom, NoneLinked, FirstsLinked, TriedLinked, TreesLinked, CopyRoom}
 use Rattle.links.specs.declared.Copies.{Copies}
@@ -127,6 +128,11 @@ copied-iff by ts G links shows i j h l = go (ℕ_discrete (first_of ts i) (first
         )
 
 -- ---- the links of a table
+-- in a new array there is room for the links of first positions, and nothing is linked
+pub empty-room : {table : Table} {firsts links : List ℕ} → FirstsRoom table firsts links
+    → FirstsRoom table firsts (replicate {A = ℕ} link_bytes 0) × NoneLinked (replicate {A = ℕ} link_bytes 0)
+empty-room f = (record { kept = f.kept; noted = f.noted; lent = f.lent; bytes = length-replicate {A = ℕ} link_bytes 0 }, zeros-at link_bytes)
+
 -- the room for the links of all positions
 pub copy-room : {table : Table} {firsts links : List ℕ} → FirstsRoom table firsts links → CopyRoom firsts table.len links
 copy-room f =

@@ -58,8 +58,8 @@ fn read_node(
     }
     let opens = b == b'(';
     if opens {
-        let none = room == 0;
-        if none {
+        let too_deep = room == 0;
+        if too_deep {
             return refuse(Refusal::TOO_DEEP, q);
         }
         return read_fork(s, q + 1, room - 1, node, at, marks);

@@ -29,8 +29,8 @@ fn read_third(
     ensures { (a b : Topology) → Halves node.old marks.old half end a b
         → TopMeets node.old node.new (third_at (read_node (max_open - 1) s.now) s.now a b from) result }
 {
-    let labels = end == 4;
-    if labels {
+    let two_labels = end == 4;
+    if two_labels {
         let q = tokens::skip_blanks(s, from);
         if tokens::byte_at(s, q) == b')' {
             node[2] = node[3];

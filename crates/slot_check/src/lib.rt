@@ -113,8 +113,8 @@ pub fn are_slots(memory: &[u8]) -> bool
             if common == 0 {
                 common = labels;
             }
-            let other = labels != common;
-            if other {
+            let differ = labels != common;
+            if differ {
                 return false;
             }
         }

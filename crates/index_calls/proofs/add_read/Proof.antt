@@ -35,7 +35,7 @@ unlike-held-requires c κs = let p = c.requires in (valid-shelves p.1 p.0, p.2)
 sub-t12 : tie.Need-overflow_sub-result
 sub-t12 c = search rules
 
-same-length-2 : tie.Need-shape_of-memory-then-other
+same-length-2 : tie.Need-shape_of-memory-then-differs
 same-length-2 c = search rules
 
 -- a number is free, and the line is told
@@ -47,12 +47,12 @@ module _ (u : tie.After-unlike_held-unlike) where
     number_is : u.first_free-number.result ≡ smallest_free hs
     number_is = u.first_free-number.ensures hs (index-shelved start.requires.1 I)
 
-returns-2 : tie.Need-returns-then-other
+returns-2 : tie.Need-returns-then-differs
 returns-2 c hs x I k =
     let u = c.before in
     let d = start u in
     let S = index-shelved d.requires.1 I in
-    add-unlike hs x d.args.behind d.args.memory.now c.first_free-number.result (number_is u hs x I k) c.if-full.false c.unlike_held-unlike.result (c.unlike_held-unlike.ensures hs x S k) c.if-other.true
+    add-unlike hs x d.args.behind d.args.memory.now c.first_free-number.result (number_is u hs x I k) c.if-full.false c.unlike_held-unlike.result (c.unlike_held-unlike.ensures hs x S k) c.if-differs.true
 
 add-requires : tie.Need-add-requires
 add-requires c κs =
@@ -70,7 +70,7 @@ add-requires c κs =
       slots = hs;
       topology = x.tree;
       adds = add-room hs x d.args.behind d.args.memory.now c.first_free-number.result (number_is u hs x I k) c.if-full.false c.unlike_held-unlike.result (c.unlike_held-unlike.ensures hs x S k)
-          c.if-other.false I d.requires.1 (omega (arith, smallest-le hs, I.trees.many)) k;
+          c.if-differs.false I d.requires.1 (omega (arith, smallest-le hs, I.trees.many)) k;
     }
 
 same-length-3 : tie.Need-shape_of-memory
@@ -86,8 +86,8 @@ returns-3 c hs x I k =
     let few : smallest_free hs ≤ max_trees = omega (arith, smallest-le hs, I.trees.many) in
     let n = number_is u hs x I k in
     let l = c.unlike_held-unlike.ensures hs x S k in
-    let A = add-room hs x d.args.behind d.args.memory.now c.first_free-number.result n c.if-full.false c.unlike_held-unlike.result l c.if-other.false I d.requires.1 few k in
-    add_done hs x d.args.behind d.args.memory.now c.first_free-number.result n c.if-full.false c.unlike_held-unlike.result l c.if-other.false (c.add.ensures hs x.tree A)
+    let A = add-room hs x d.args.behind d.args.memory.now c.first_free-number.result n c.if-full.false c.unlike_held-unlike.result l c.if-differs.false I d.requires.1 few k in
+    add_done hs x d.args.behind d.args.memory.now c.first_free-number.result n c.if-full.false c.unlike_held-unlike.result l c.if-differs.false (c.add.ensures hs x.tree A)
 
 pub add_read_spec : {M : Type 1} → statement M
 add_read_spec =

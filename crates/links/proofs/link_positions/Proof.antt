@@ -5,7 +5,7 @@ use borrow.Author.Rules.{rules}
 use lib.ListN.{length-replicate}
 use Rattle.lent.proofs.Tallies.{zeros-at}
 use Rattle.sharing.specs.Links.{link_bytes}
-use Rattle.links.proofs.Linked.{merged-linked, copy-room, kept-linked}
+use Rattle.links.proofs.Linked.{merged-linked, empty-room, copy-room, kept-linked}
 use Rattle.links.proofs.link_positions.Statement.{statement}
 use Rattle.links.proofs.link_positions.Tie as tie
 
@@ -13,15 +13,13 @@ enum_told : tie.Need-enum_told-1
 enum_told c = search rules
 
 link-firsts-requires : tie.Need-link_firsts-requires
-link-firsts-requires c κs = search rules
+link-firsts-requires c κs = search (rules, empty-room)
 
 enum-told-2 : tie.Need-enum_told-in-KeptApart
 enum-told-2 c = search rules
 
 link-firsts-requires-2 : tie.Need-link_firsts-requires-in-KeptApart
-link-firsts-requires-2 c κs =
-    let p = c.requires.0 in
-    (record { kept = p.kept; noted = p.noted; lent = p.lent; bytes = length-replicate {A = ℕ} link_bytes 0 }, zeros-at link_bytes)
+link-firsts-requires-2 c κs = search (rules, empty-room)
 
 copy-links-requires : tie.Need-copy_links-requires
 copy-links-requires c κs = copy-room c.requires.0

@@ -238,15 +238,15 @@ read-node-returns t c =
 read-node-refuse-requires : (t : ℕ) → read-node-lts.Need-refuse-requires (node-claims t) (read-node-at t) read-node.Post
 read-node-refuse-requires t c κs = search rules
 
-read-node-returns-2 : (t : ℕ) → read-node-lts.Need-returns-then-none (node-claims t) (read-node-at t) read-node.Post
+read-node-returns-2 : (t : ℕ) → read-node-lts.Need-returns-then-too_deep (node-claims t) (read-node-at t) read-node.Post
 read-node-returns-2 t c =
     let d = c.before.before.before in
     let a = d.args in
     via-deep a.s.now a.from d.skip_blanks-q.ensures d.byte_at-b.ensures d.is_digit.ensures
-    a.room d.if-is_digit.false c.if-opens.true c.if-none.true c.refuse.ensures refl
+    a.room d.if-is_digit.false c.if-opens.true c.if-too_deep.true c.refuse.ensures refl
 
 -- the bracket is in the text
-bracket-in : (t : ℕ) (c : read-node-lts.Else-none (node-claims t) (read-node-at t) read-node.Post)
+bracket-in : (t : ℕ) (c : read-node-lts.Else-too_deep (node-claims t) (read-node-at t) read-node.Post)
     → c.skip_blanks-q.result < length c.args.s.now
 bracket-in t c = inside c.args.s.now
     c.skip_blanks-q.result (sym c.byte_at-b.ensures ∙ c.if-opens.true) (lit< tt)
@@ -263,8 +263,8 @@ read-node-read-fork-requires t c κs =
     let a = start.args in
     let k = c.before.before in
     let e = k.skip_blanks-q.ensures in (
-      bracket-takes a.room a.s.now a.from _ start.requires.0 k.if-none.false e (bracket-in t k),
-      less-room start.requires.1 (omega (arith, k.if-none.false)),
+      bracket-takes a.room a.s.now a.from _ start.requires.0 k.if-too_deep.false e (bracket-in t k),
+      less-room start.requires.1 (omega (arith, k.if-too_deep.false)),
     )
 
 read-node-same-length-2 : (t : ℕ) → read-node-lts.Need-shape_of-node-then-opens (node-claims t) (read-node-at t) read-node.Post
@@ -276,7 +276,7 @@ read-node-returns-3 t c =
     let d = e.before.before in
     let a = d.args in
     via-fork a.s.now a.from d.skip_blanks-q.ensures d.byte_at-b.ensures d.is_digit.ensures
-    a.room d.if-is_digit.false e.if-opens.true e.if-none.false c.read_fork.ensures
+    a.room d.if-is_digit.false e.if-opens.true e.if-too_deep.false c.read_fork.ensures
 
 read-node-refuse-requires-2 : (t : ℕ) → read-node-lts.Need-refuse-requires-2 (node-claims t) (read-node-at t) read-node.Post
 read-node-refuse-requires-2 t c κs = search rules

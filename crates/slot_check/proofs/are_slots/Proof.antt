@@ -106,11 +106,11 @@ full j = found (labels-told (labelled j)) j.if-labels-eq0.false
 came : (j : Shared) → Came (common (looked (labelled j))) j.labels_of-labels.result j.if-common-eq0.common
 came j = ⊎_elim (λ w. inl (w.if-common-eq0.true, w.common-is)) (λ w. inr (w.if-common-eq0.false, w.common-is)) j.if-common-eq0.branch-raw
 
-returns-2 : tie.Need-returns-then-other invariant-loop decreases-loop
+returns-2 : tie.Need-returns-then-differ invariant-loop decreases-loop
 returns-2 c =
     let j = c.before in
     let z = looked (labelled j) in
-    refused-labels (memory z) (passed z) j.labels_of-labels.result j.if-common-eq0.common (full j) (came j) (below z) (λ e. omega (arith, c.if-other.true, e))
+    refused-labels (memory z) (passed z) j.labels_of-labels.result j.if-common-eq0.common (full j) (came j) (below z) (λ e. omega (arith, c.if-differ.true, e))
 
 add-x : tie.Need-overflow_step-x invariant-loop decreases-loop
 add-x c = omega arith
@@ -126,7 +126,7 @@ loop-again c =
       ⊎_elim
           (λ w.
           let j : Shared = record { before = record { before = record { before = record { before = z; if-not-all_zero = w.if-not-all_zero }; labels_of-labels = w.labels_of-labels }; if-labels-eq0 = w.if-labels-eq0 }; if-common-eq0 = w.if-common-eq0 } in
-          subst (Passed here (place z + 1)) (sym w.common-is) (passed-full here (passed z) w.labels_of-labels.result w.if-common-eq0.common (full j) (came j) (omega (arith, w.if-other.false))))
+          subst (Passed here (place z + 1)) (sym w.common-is) (passed-full here (passed z) w.labels_of-labels.result w.if-common-eq0.common (full j) (came j) (omega (arith, w.if-differ.false))))
           (λ w.
           let zeros = said (NoTree z) w.if-not-all_zero.false (zeros-said z) in
           subst (Passed here (place z + 1)) (sym w.common-is) (passed-free here (passed z) (whole z) zeros))

@@ -17,21 +17,21 @@ use Rattle.reading.proofs.tops.read_third.Statement.{statement}
 use Rattle.reading.proofs.tops.read_third.Tie as tie
 
 -- the entry, from where a third node has to follow; its text, and where it begins
-abbrev start : tie.Joined-labels → tie.Start
+abbrev start : tie.Joined-two_labels → tie.Start
 start c = c.before.before.before
 
-abbrev text : tie.Joined-labels → List ℕ
+abbrev text : tie.Joined-two_labels → List ℕ
 text c = c.args.s.now
 
-abbrev from : tie.Joined-labels → ℕ
+abbrev from : tie.Joined-two_labels → ℕ
 from c = c.args.from
 
 -- these are not two labels with `)` behind them
-more : (c : tie.Joined-labels) → c.args.end ≡ 4 → byte_at (text c) (skip (text c) (from c)) ≡ 41 → ⊥
-more c e f = ⊎_elim (λ w. w.if-byte_at-eq41.false (sym (byte-is (text c) (from c) w.skip_blanks-q.ensures w.byte_at.ensures) ∙ f)) (λ w. w.if-labels.false e) c.if-labels.branch-raw
+more : (c : tie.Joined-two_labels) → c.args.end ≡ 4 → byte_at (text c) (skip (text c) (from c)) ≡ 41 → ⊥
+more c e f = ⊎_elim (λ w. w.if-byte_at-eq41.false (sym (byte-is (text c) (from c) w.skip_blanks-q.ensures w.byte_at.ensures) ∙ f)) (λ w. w.if-two_labels.false e) c.if-two_labels.branch-raw
 
 -- the comma that was accepted
-abbrev joined : tie.In-Next → tie.Joined-labels
+abbrev joined : tie.In-Next → tie.Joined-two_labels
 joined c = c.before.before
 
 comma-is : (c : tie.In-Next)
@@ -66,7 +66,7 @@ same_length c = search rules
 returns : tie.Need-returns-then-byte_at-eq41
 returns c a b h =
     let args = c.args in
-    third-closed args.s.now args.from h c.if-labels.true c.skip_blanks-q.ensures c.byte_at.ensures c.if-byte_at-eq41.true c.fork_byte.ensures
+    third-closed args.s.now args.from h c.if-two_labels.true c.skip_blanks-q.ensures c.byte_at.ensures c.if-byte_at-eq41.true c.fork_byte.ensures
 
 expect-byte-requires : tie.Need-expect_byte-comma-requires
 expect-byte-requires c κs = search rules
