@@ -1,10 +1,6 @@
 -- `links::link_positions` meets its contract.
 -- Assumes nothing.
-use Prim.Native.Nat.{ℕ}
 use borrow.Author.Rules.{rules}
-use lib.ListN.{length-replicate}
-use Rattle.lent.proofs.Tallies.{zeros-at}
-use Rattle.sharing.specs.Links.{link_bytes}
 use Rattle.links.proofs.Linked.{merged-linked, empty-room, copy-room, kept-linked}
 use Rattle.links.proofs.link_positions.Statement.{statement}
 use Rattle.links.proofs.link_positions.Tie as tie
