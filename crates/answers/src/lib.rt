@@ -1,53 +1,33 @@
 #![tactic(auto)]
 // What the test programs print of an answer.
-use calls::{PairAnswer, TextAnswer};
+use pairs::Comparison;
 use std::io;
 use tokens::Refusal;
 
-pub fn print(rt: &impl Print, text: &[u8]) -> io::Result<()> {
-    rt.write_all(text)
-}
-
-pub fn print_number(rt: &impl Print, n: usize) -> io::Result<()> {
-    print!(rt; "{n}")
-}
-
-// The first n bytes of a slice, which has as many.
+/// The first n bytes of a slice, or all of it where it has fewer.
 pub fn print_first(rt: &impl Print, text: &[u8], n: usize) -> io::Result<()> {
-    if n <= text.len() {
-        rt.write_all(&text[..n])?;
-    }
-    Ok(())
+    rt.write_all(&text[..n.min(text.len())])
 }
 
-pub fn print_refusal(rt: &impl Print, x: Refusal) -> io::Result<()> {
-    let Refusal {
-        number,
-        text,
-        place,
-    } = x;
-    println!(rt; "refused {number} in {text} at {place}")
-}
-
-pub fn print_text(rt: &impl Print, answer: TextAnswer, out: &[u8]) -> io::Result<()> {
+/// The text that an answer says is written in `out`, or the refusal, and the line's end.
+pub fn print_text(rt: &impl Print, answer: Result<usize, Refusal>, out: &[u8]) -> io::Result<()> {
     match answer {
-        TextAnswer::Written(n) => {
+        Ok(n) => {
             print_first(rt, out, n)?;
-            print(rt, b"\n")
+            println!(rt; "")
         }
-        TextAnswer::Refused(x) => print_refusal(rt, x),
+        Err(x) => println!(rt; "{x}"),
     }
 }
 
-fn print_compared(rt: &impl Print, said: &str, forests: usize) -> io::Result<()> {
-    println!(rt; "{said}, compared {forests}")
-}
-
-// Yes or no, and how many forests were compared.
-pub fn print_pair(rt: &impl Print, answer: PairAnswer) -> io::Result<()> {
+/// Yes or no, and how many forests were compared, or the refusal, and the line's end.
+// No `Display` of a `Comparison`: these words are the test programs' own.
+pub fn print_pair(rt: &impl Print, answer: Result<Comparison, Refusal>) -> io::Result<()> {
     match answer {
-        PairAnswer::Yes(forests) => print_compared(rt, "yes", forests),
-        PairAnswer::No(forests) => print_compared(rt, "no", forests),
-        PairAnswer::Refused(x) => print_refusal(rt, x),
+        Ok(told) => {
+            let said = if told.yes { "yes" } else { "no" };
+            println!(rt; "{said}, compared {}", told.forests)
+        }
+        Err(x) => println!(rt; "{x}"),
     }
 }

@@ -2,13 +2,14 @@
 -- Assumes nothing.
 use mathlib.Core.Path.{◌≡◌, sym, ap, ◌∙◌}
 use mathlib.Core.Logic.{◌↔◌, ◌⊎◌, inl, inr}
+use mathlib.Core.Bool.{Bool, false, true≢false}
 use mathlib.Core.List.{List}
 use Prim.Native.Nat.{ℕ, ◌+◌, ◌*◌, ◌<◌}
 use native.Mathlib.Omega.{arith}
-use lib.ListN.{length, drop, get_or, replicate}
+use native.Mathlib.Decide.{dec_lt}
+use lib.ListN.{length, drop, get_or, replicate, length-replicate, get_or-replicate, get_or-eq_default}
 use lib.Seq.{get_or-take, get_or-drop, ext_get_or}
 use Rattle.meaning.specs.Limits.{max_trees, max_nodes}
-use Rattle.lent.proofs.Tallies.{zeros-at}
 use Rattle.holdings.specs.Slots.{Slot, slot_at}
 use Rattle.holdings.specs.Neighbours.{Linked, linked, Met}
 use Rattle.holdings.specs.Memory.{slot_bytes, slot_in, Shelved}
@@ -18,12 +19,20 @@ use Rattle.slots.proofs.Shelving.{slot-long}
 use Rattle.asking.specs.Asking.{Marked, Marks, SameSlots, Other, Below, ListWritten, NeighboursWritten}
 use Rattle.asking.proofs.Listed.{list-iff}
 
--- marked from zeros on
-zeros-marked : {P : ℕ → Type 0} {marks : List ℕ} → Marks P (replicate max_trees 0) marks → (y : ℕ) → Marked marks y ↔ P y
+-- no number is marked at first
+none-marked : (n y : ℕ) → get_or (replicate n false) y false ≡ false
+none-marked n y = go (dec_lt y n)
+  where
+    go : Dec (y < n) → get_or (replicate n false) y false ≡ false
+    go (yes h) = get_or-replicate n y false false h
+    go (no h) = get_or-eq_default (replicate n false) false (omega (arith, length-replicate {A = Bool} n false))
+
+-- marked from none on
+zeros-marked : {P : ℕ → Type 0} {marks : List Bool} → Marks P (replicate max_trees false) marks → (y : ℕ) → Marked marks y ↔ P y
 zeros-marked {P} m y = (λ e. go ((m.each y).0 e), λ p. (m.each y).1 (inr p))
   where
-    go : Marked (replicate max_trees 0) y ⊎ P y → P y
-    go (inl e) = absurd (omega (arith, zeros-at max_trees y, e))
+    go : Marked (replicate max_trees false) y ⊎ P y → P y
+    go (inl e) = absurd (true≢false (sym e ∙ none-marked max_trees y))
     go (inr p) = p
 
 module _ {hs : List Slot} {memory : List ℕ} (S : Shelved hs memory) where
@@ -51,7 +60,7 @@ module _ {hs : List Slot} {memory : List ℕ} (S : Shelved hs memory) where
           sym (slot-byte x k i) ∙ ap (λ (l : List ℕ). get_or l k 0) bytes ∙ slot-byte y k i
 
   -- the list of what is found
-  pub found : {x : ℕ} {marks list list' : List ℕ} {r : ℕ} → x < max_trees → Marks (Met hs x) (replicate max_trees 0) marks
+  pub found : {x : ℕ} {marks : List Bool} {list list' : List ℕ} {r : ℕ} → x < max_trees → Marks (Met hs x) (replicate max_trees false) marks
       → ListWritten (Below (Other marks memory x) max_trees) list list' r → NeighboursWritten hs x list list' r
   found {x} {marks} few m w =
       let n = list-iff {Q = Linked hs x} (λ y. (to y, from y)) w in

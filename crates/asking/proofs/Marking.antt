@@ -2,6 +2,7 @@
 -- Assumes nothing.
 use mathlib.Core.Path.{◌≡◌, refl, sym, ap, ◌∙◌, subst}
 use mathlib.Core.Logic.{◌↔◌, ◌⊎◌, inl, inr}
+use mathlib.Core.Bool.{Bool, true, false}
 use mathlib.Core.List.{List}
 use Prim.Native.Nat.{ℕ, ◌+◌, ◌≤◌, ◌<◌}
 use native.Mathlib.Omega.{arith}
@@ -16,7 +17,7 @@ use Rattle.asking.specs.Asking.{Marked, Marks, Bears}
 use Rattle.asking.proofs.Walk.{Passed}
 
 -- other words for which numbers these are
-pub marks-iff : {P Q : ℕ → Type 0} {marks marks' : List ℕ} → ((y : ℕ) → P y ↔ Q y) → Marks P marks marks' → Marks Q marks marks'
+pub marks-iff : {P Q : ℕ → Type 0} {marks marks' : List Bool} → ((y : ℕ) → P y ↔ Q y) → Marks P marks marks' → Marks Q marks marks'
 marks-iff {P} {Q} {marks} f m = record { long = m.long; each = λ y. (λ e. to y ((m.each y).0 e), λ s. (m.each y).1 (from y s)) }
   where
     to : (y : ℕ) → Marked marks y ⊎ P y → Marked marks y ⊎ Q y
@@ -27,29 +28,29 @@ marks-iff {P} {Q} {marks} f m = record { long = m.long; each = λ y. (λ e. to y
     from y (inl e) = inl e
     from y (inr q) = inr ((f y).1 q)
 
-pub marks-none : (P : ℕ → Type 0) (marks : List ℕ) → ((y : ℕ) → ¬ P y) → Marks P marks marks
+pub marks-none : (P : ℕ → Type 0) (marks : List Bool) → ((y : ℕ) → ¬ P y) → Marks P marks marks
 marks-none P marks none = record { long = refl; each = λ y. (inl, λ s. from y s) }
   where
     from : (y : ℕ) → Marked marks y ⊎ P y → Marked marks y
     from y (inl e) = e
     from y (inr p) = absurd (none y p)
 
-pub marks-one : (marks : List ℕ) (z : ℕ) → z < length marks → Marks (λ y. z ≡ y) marks (set marks z 1)
-marks-one marks z inside = record { long = length-set marks z 1; each = λ y. (λ e. to y (ℕ_discrete z y) e, λ s. from y (ℕ_discrete z y) s) }
+pub marks-one : (marks : List Bool) (z : ℕ) → z < length marks → Marks (λ y. z ≡ y) marks (set marks z true)
+marks-one marks z inside = record { long = length-set marks z true; each = λ y. (λ e. to y (ℕ_discrete z y) e, λ s. from y (ℕ_discrete z y) s) }
   where
-    other : (y : ℕ) → ¬ (z ≡ y) → get_or (set marks z 1) y 0 ≡ get_or marks y 0
-    other y n = get_or-set_other marks z y 1 0 (λ e. n (sym e))
+    other : (y : ℕ) → ¬ (z ≡ y) → get_or (set marks z true) y false ≡ get_or marks y false
+    other y n = get_or-set_other marks z y true false (λ e. n (sym e))
 
-    to : (y : ℕ) → Dec (z ≡ y) → Marked (set marks z 1) y → Marked marks y ⊎ (z ≡ y)
+    to : (y : ℕ) → Dec (z ≡ y) → Marked (set marks z true) y → Marked marks y ⊎ (z ≡ y)
     to y (yes q) e = inr q
     to y (no n) e = inl (sym (other y n) ∙ e)
 
-    from : (y : ℕ) → Dec (z ≡ y) → Marked marks y ⊎ (z ≡ y) → Marked (set marks z 1) y
-    from y (yes q) s = ap (λ (i : ℕ). get_or (set marks z 1) i 0) (sym q) ∙ get_or-set_same marks z 1 0 inside
+    from : (y : ℕ) → Dec (z ≡ y) → Marked marks y ⊎ (z ≡ y) → Marked (set marks z true) y
+    from y (yes q) s = ap (λ (i : ℕ). get_or (set marks z true) i false) (sym q) ∙ get_or-set_same marks z true false inside
     from y (no n) (inl e) = other y n ∙ e
     from y (no n) (inr q) = absurd (n q)
 
-pub marks-more : {P Q : ℕ → Type 0} {marks marks' marks'' : List ℕ} → Marks P marks marks' → Marks Q marks' marks'' → Marks (λ y. P y ⊎ Q y) marks marks''
+pub marks-more : {P Q : ℕ → Type 0} {marks marks' marks'' : List Bool} → Marks P marks marks' → Marks Q marks' marks'' → Marks (λ y. P y ⊎ Q y) marks marks''
 marks-more {P} {Q} {marks} {marks'} {marks''} m n = record { long = n.long ∙ m.long; each = λ y. (λ e. to y ((n.each y).0 e), from y) }
   where
     first : (y : ℕ) → Marked marks y ⊎ P y → Marked marks y ⊎ (P y ⊎ Q y)
@@ -67,12 +68,12 @@ marks-more {P} {Q} {marks} {marks'} {marks''} m n = record { long = n.long ∙ m
 
 -- ---- a walk from p on
 module _ (memory : List ℕ) (p : ℕ) where
-  pub passed_none : (marks : List ℕ) → Marks (Passed memory p p) marks marks
+  pub passed_none : (marks : List Bool) → Marks (Passed memory p p) marks marks
   passed_none marks = marks-none (Passed memory p p) marks (λ y w. omega (arith, w.from, w.to))
 
   -- it passes one entry more
-  pub passed-next : {marks marks' : List ℕ} {k : ℕ} → p ≤ k → (entry_in memory k).0 < length marks → Marks (Passed memory p k) marks marks'
-      → Marks (Passed memory p (k + 1)) marks (set marks' (entry_in memory k).0 1)
+  pub passed-next : {marks marks' : List Bool} {k : ℕ} → p ≤ k → (entry_in memory k).0 < length marks → Marks (Passed memory p k) marks marks'
+      → Marks (Passed memory p (k + 1)) marks (set marks' (entry_in memory k).0 true)
   passed-next {marks} {marks'} {k} h inside m =
       marks-iff (λ y. (to y, λ w. from y w (ℕ_discrete w.place k))) (marks-more m (marks-one marks' (entry_in memory k).0 (omega (arith, m.long))))
     where
@@ -92,11 +93,11 @@ module _ (hs : List Slot) (x : ℕ) where
     pub below : cut < c
     pub bears : Bears hs (entry_text hs (x, cut)) y
 
-  pub met-none : (marks : List ℕ) → Marks (MetBelow 0) marks marks
+  pub met-none : (marks : List Bool) → Marks (MetBelow 0) marks marks
   met-none marks = marks-none (MetBelow 0) marks (λ y w. omega (arith, w.below))
 
   -- one cut more
-  pub met_next : {marks marks' marks'' : List ℕ} {c : ℕ} → Marks (MetBelow c) marks marks' → Marks (Bears hs (entry_text hs (x, c))) marks' marks''
+  pub met_next : {marks marks' marks'' : List Bool} {c : ℕ} → Marks (MetBelow c) marks marks' → Marks (Bears hs (entry_text hs (x, c))) marks' marks''
       → Marks (MetBelow (c + 1)) marks marks''
   met_next {c} m n = marks-iff (λ y. (to y, λ w. from y w (ℕ_discrete w.cut c))) (marks-more m n)
     where
@@ -109,7 +110,7 @@ module _ (hs : List Slot) (x : ℕ) where
       from y w (no n) = inl (record { cut = w.cut; below = omega (arith, w.below); bears = w.bears })
 
   -- all of them
-  pub met_all : {marks marks' : List ℕ} {c : ℕ} → c ≡ cuts_of (slot_at hs x) → Marks (MetBelow c) marks marks' → Marks (Met hs x) marks marks'
+  pub met_all : {marks marks' : List Bool} {c : ℕ} → c ≡ cuts_of (slot_at hs x) → Marks (MetBelow c) marks marks' → Marks (Met hs x) marks marks'
   met_all {c} e = marks-iff (λ y. (to y, from y))
     where
       to : (y : ℕ) → MetBelow c y → Met hs x y

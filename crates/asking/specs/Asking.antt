@@ -1,23 +1,21 @@
 -- Lists of neighbours: which numbers are marked, and what listing them leaves in lent memory.
 -- Assumes nothing.
-use Rattle.std.specs.Prelude.{◌≡◌, ◌↔◌, ◌⊎◌, ℕ, ◌*◌, ◌≤◌, ◌<◌, ltb, length, get_or}
+use Rattle.std.specs.Prelude.{◌≡◌, ◌↔◌, Bool, true, false, ◌⊎◌, ℕ, ◌*◌, ◌≤◌, ◌<◌, ltb, length, get_or}
 use mathlib.Core.List.{List, Memᴰ}
 use Rattle.meaning.specs.Limits.{max_trees, max_nodes}
 use Rattle.meaning.specs.Sorted.{Sorted}
 use Rattle.lent.specs.Runs.{Wrote, SameRun}
 use Rattle.holdings.specs.Slots.{Slot}
 use Rattle.holdings.specs.Entries.{entry_text, IsEntry, total}
-use Rattle.holdings.specs.Memory.{index_bytes, entry_bytes, entry_in, IsIndex, Valid, Shelved}
+use Rattle.holdings.specs.Memory.{index_bytes, IsIndex, Valid}
 use Rattle.holdings.specs.Neighbours.{Neighbours}
-use Rattle.entries.specs.declared.Text.{Text}
-use Rattle.entries.specs.Texts.{IsText}
 
 -- the number y is marked
-abbrev pub Marked : List ℕ → ℕ → Type 0
-Marked marks y = get_or marks y 0 ≡ 1
+abbrev pub Marked : List Bool → ℕ → Type 0
+Marked marks y = get_or marks y false ≡ true
 
 -- the numbers with P were marked; those that were marked before are still
-pub record Marks (P : ℕ → Type 0) (marks marks' : List ℕ) : Type 0 where
+pub record Marks (P : ℕ → Type 0) (marks marks' : List Bool) : Type 0 where
   pub long : length marks' ≡ length marks
   pub each : (y : ℕ) → Marked marks' y ↔ (Marked marks y ⊎ P y)
 
@@ -33,21 +31,12 @@ pub record Askable (memory : List ℕ) (x : ℕ) : Type 0 where
   pub long : index_bytes ≤ length memory
   pub inside : x < max_trees
 
--- memory has the slots of some set, its entry k is one of the set's, and the record has some text
-pub record EntryRoom (memory : List ℕ) (k : ℕ) (text : Text) : Type 0 where
-  pub slots : List Slot
-  pub shelved : Shelved slots memory
-  pub entry : IsEntry slots (entry_in memory k)
-  pub few : 2 * k < entry_bytes
-  pub has : IsText text
-
--- memory is the index of some set, which has n entries; the record has some text; and there is a mark for each number
-pub record TextRoom (marks memory : List ℕ) (n : ℕ) (text : Text) : Type 0 where
+-- memory is the index of some set, which has n entries, and there is a mark for each number
+pub record TextRoom (marks : List Bool) (memory : List ℕ) (n : ℕ) : Type 0 where
   pub slots : List Slot
   pub index : IsIndex slots memory
   pub long : index_bytes ≤ length memory
   pub many : n ≡ total slots
-  pub has : IsText text
   pub room : length marks ≡ max_trees
 
 -- the slots of x and y have the same bytes
@@ -55,7 +44,7 @@ abbrev pub SameSlots : List ℕ → ℕ → ℕ → Type 0
 SameSlots memory x y = SameRun memory (x * max_nodes) memory (y * max_nodes) max_nodes
 
 -- y is to be listed: it is marked, and no copy of x
-abbrev pub Other : List ℕ → List ℕ → ℕ → ℕ → Type 0
+abbrev pub Other : List Bool → List ℕ → ℕ → ℕ → Type 0
 Other marks memory x y = Marked marks y × (¬ SameSlots memory x y)
 
 -- the numbers with P below k

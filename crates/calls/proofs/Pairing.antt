@@ -4,13 +4,14 @@ use mathlib.Core.Path.{◌≡◌, refl, sym, ap, subst, ◌∙◌}
 use mathlib.Core.Bool.{Bool, true, false}
 use mathlib.Core.List.{List}
 use Prim.Native.Nat.{ℕ, zero, suc, ◌-◌, ◌≤◌, ◌<◌}
+use native.Mathlib.Omega.{arith}
 use borrow.Author.Tests.{le-ltb, lt-ltb}
 use lib.ListN.{length}
 use Rattle.meaning.specs.Limits.{text_bytes}
 use Rattle.meaning.specs.Unrooted.{ApartU}
 use Rattle.meaning.specs.Kind.{Kind, rooted, unrooted, Kinded, either}
 use Rattle.meaning.specs.EitherKind.{ApartAs}
-use Rattle.meaning.specs.Reading.{got, refused, unlike, read_tree}
+use Rattle.meaning.specs.Reading.{got, unlike, read_tree}
 use Rattle.meaning.specs.Compared.{compared_as}
 use Rattle.meaning.specs.Answer.{Answer, accepted, refusal, Comparison}
 use Rattle.meaning.specs.Calls.{together, beside, pair_reading, PairCall}
@@ -18,7 +19,6 @@ use Rattle.meaning.proofs.Alike.{unlike-iff}
 use Rattle.meaning.proofs.Sound.{read_behind}
 use Rattle.lent.specs.Runs.{Says}
 use Rattle.lent.proofs.Says.{says}
-use Rattle.held.specs.Held.{nodes}
 use Rattle.held.specs.Kept.{kind_of, Standing, KeepsKind, KeptKind}
 use Rattle.held.specs.declared.Kind.TheVariants.{Rooted, Unrooted}
 use Rattle.held.specs.declared.Tree.{Tree}
@@ -26,21 +26,16 @@ use Rattle.pairs.specs.Pair.{Tested}
 use Rattle.pairs.specs.declared.Comparison.{Comparison as Told}
 use Rattle.unrooted.specs.Apart.{ApartHung}
 use Rattle.unrooted.proofs.Apart.{standing-iff}
-use Rattle.reading.specs.Whole.{TreeMeets}
-use Rattle.tokens.specs.declared.Refusal.{Refusal}
+use Rattle.reading.specs.Whole.{Reads}
 use Rattle.reading.specs.declared.TreeRead.{TreeRead}
-use Rattle.tokens.specs.declared.Step.TheVariants.{Next, Refused as StepRefused}
-use Rattle.tokens.proofs.Steps.{Accepts, step-next, step-denied}
+use Rattle.tokens.specs.Paper.{number_of, Accepts, Refuses}
+use Rattle.tokens.specs.declared.Refusal.{Refusal}
 use Rattle.calls.specs.Paper.{comparison_of}
 use Rattle.calls.specs.Paired.{TestedAs, Answers, stands_apart, not_apart, refuses}
-use Rattle.tokens.specs.Paper.{refusal_of}
 
 -- what is answered to an answer that is known
 answers : {a a' : Answer ((x : Kinded) × Kinded)} {b : Answer Comparison} → a ≡ a' → Answers a' b → Answers a b
 answers e h = rw e h
-
-refused_as : {a : Answer ((x : Kinded) × Kinded)} {x : Refusal} → a ≡ refusal_of x → Answers a (refusal_of x)
-refused_as {x} e = answers e (refuses x.number x.text x.place)
 
 -- ---- two trees of one kind
 module _ {a b : Tree} {x y : Kinded} (k : KeepsKind a x) (l : KeepsKind b y) where
@@ -69,11 +64,11 @@ module _ (x y : Kinded) (p : ℕ) {n : ℕ} (e : n ≡ unlike x y) where
   as-told : beside x (got y p) ≡ together n x y p
   as-told = ap (λ (m : ℕ). together m x y p) (sym e)
 
-  pub stand-apart : (n ≡ 0 → ⊥) → Answers (beside x (got y p)) (refusal n 1 (p - 1))
+  pub stand-apart : 1 ≤ n → Answers (beside x (got y p)) (refusal n 1 (p - 1))
   stand-apart h = answers as-told (by n h)
     where
-      by : (n : ℕ) → (n ≡ 0 → ⊥) → Answers (together n x y p) (refusal n 1 (p - 1))
-      by zero h = absurd (h refl)
+      by : (n : ℕ) → 1 ≤ n → Answers (together n x y p) (refusal n 1 (p - 1))
+      by zero h = absurd (omega (arith, h))
       by (suc n) h = refuses (suc n) 1 (p - 1)
 
   module _ (h : n ≡ 0) where
@@ -83,31 +78,28 @@ module _ (x y : Kinded) (p : ℕ) {n : ℕ} (e : n ≡ unlike x y) where
     pub one-kind : x.kind ≡ y.kind
     one-kind = ((unlike-iff x y).0 (sym e ∙ h)).kinds
 
-    pub answer-told : (told : Told) {r : Answer Comparison} → TestedAs x y told → r ≡ accepted (comparison_of told) → Answers (beside x (got y p)) r
-    answer-told told t f = answers both (rw f (by told.yes t.apart t.number))
+    pub answer-told : (told : Told) → TestedAs x y told → Answers (beside x (got y p)) (accepted (comparison_of told))
+    answer-told told t = answers both (by told.yes t.apart t.number)
       where
         by : (d : Bool) {m : ℕ} → Says d (ApartAs x.kind x.tree y.tree) → m ≡ compared_as x.kind x.tree y.tree → Answers (accepted (x, y)) (accepted (record { yes = d; forests = m }))
         by true s f = rw f (stands_apart x y s)
         by false s f = rw f (not_apart x y s)
 
 -- ---- the tree of text 0, and text 1
-module _ (s : List ℕ) {r : TreeRead} (m : TreeMeets r (read_tree either s)) where
+module _ (s : List ℕ) where
   -- the tree that was read is kept
-  module _ {p k : ℕ} (e : r.step ≡ Next p k) where
-    one : Accepts (λ x. nodes x.tree) (KeepsKind r.tree) (read_tree either s) p k
-    one = step-next m e
+  module _ {read : TreeRead} (R : Accepts (read_tree either s) read.behind (Reads read)) where
+    pub read_kept : KeptKind read.tree
+    read_kept = record { kinded = R.value; keeps = R.keeps.keeps }
 
-    pub read_kept : KeptKind r.tree
-    read_kept = record { kinded = one.value; keeps = one.keeps }
+    pub read_some : 1 ≤ read.behind
+    read_some = (read_behind either s R.value read.behind R.is).0
 
-    pub read_some : 1 ≤ p
-    read_some = (read_behind either s one.value p one.is).0
+    pub second-read : (x : Kinded) {b : Answer Comparison} → ((y : Kinded) → KeepsKind read.tree y → Answers (beside x (got y read.behind)) b) → Answers (beside x (read_tree either s)) b
+    second-read x w = answers (ap (beside x) R.is) (w R.value R.keeps.keeps)
 
-    pub second-read : (x : Kinded) {b : Answer Comparison} → ((y : Kinded) → KeepsKind r.tree y → Answers (beside x (got y p)) b) → Answers (beside x (read_tree either s)) b
-    second-read x w = answers (ap (beside x) one.is) (w one.value one.keeps)
-
-  pub second-refused : (x : Kinded) {y z : Refusal} → r.step ≡ StepRefused y → z ≡ record { number = y.number; text = 1; place = y.place } → Answers (beside x (read_tree either s)) (refusal_of z)
-  second-refused x e f = refused_as (ap (beside x) (step-denied m e).0 ∙ ap refusal_of (sym f))
+  pub second-refused : (x : Kinded) {y : Refusal} → Refuses (read_tree either s) y → Answers (beside x (read_tree either s)) (refusal (number_of y.reason) 1 y.place)
+  second-refused x {y} R = answers (ap (beside x) R.is) (refuses (number_of y.reason) 1 y.place)
 
 -- ---- the call
 answered-by : {s s' : List ℕ} {a : Answer ((x : Kinded) × Kinded)} {b : Answer Comparison} → pair_reading s s' ≡ a → Answers a b → PairCall s s' b
@@ -119,24 +111,16 @@ pair-call : (s s' : List ℕ) {b : Answer Comparison} → Answers (pair_reading 
 pair-call s s' h = answered-by refl h
 
 module _ (s s' : List ℕ) where
-  pub pair-long : {x : Refusal} → text_bytes < length s → x ≡ record { number = 8; text = 0; place = 0 } → PairCall s s' (refusal_of x)
-  pair-long h e = pair-call s s' (refused_as (rw (e, lt-ltb text_bytes (length s) h)))
+  pub pair-long : text_bytes < length s → PairCall s s' (refusal 8 0 0)
+  pair-long h = pair-call s s' (answers (rw (lt-ltb text_bytes (length s) h)) (refuses 8 0 0))
 
-  pub pair-long-second : {x : Refusal} → length s ≤ text_bytes → text_bytes < length s' → x ≡ record { number = 8; text = 1; place = 0 } → PairCall s s' (refusal_of x)
-  pair-long-second h k e = pair-call s s' (refused_as (rw (e, le-ltb text_bytes (length s) h, lt-ltb text_bytes (length s') k)))
+  module _ (h : length s ≤ text_bytes) where
+    pub pair-long-second : text_bytes < length s' → PairCall s s' (refusal 8 1 0)
+    pair-long-second k = pair-call s s' (answers (rw (le-ltb text_bytes (length s) h, lt-ltb text_bytes (length s') k)) (refuses 8 1 0))
 
-  module _ (h : length s ≤ text_bytes) (k : length s' ≤ text_bytes) where
-    first-denied : {n p : ℕ} → read_tree either s ≡ refused n p → pair_reading s s' ≡ refusal n 0 p
-    first-denied e = rw (le-ltb text_bytes (length s) h, le-ltb text_bytes (length s') k, e)
+    module _ (k : length s' ≤ text_bytes) where
+      pub pair-refused : {x : Refusal} → Refuses (read_tree either s) x → PairCall s s' (refusal (number_of x.reason) 0 x.place)
+      pair-refused {x} R = pair-call s s' (answers (rw (le-ltb text_bytes (length s) h, le-ltb text_bytes (length s') k, R.is)) (refuses (number_of x.reason) 0 x.place))
 
-    first-got : {x : Kinded} {p : ℕ} → read_tree either s ≡ got x p → pair_reading s s' ≡ beside x (read_tree either s')
-    first-got e = rw (le-ltb text_bytes (length s) h, le-ltb text_bytes (length s') k, e)
-
-    module _ {r : TreeRead} (m : TreeMeets r (read_tree either s)) where
-      pub pair-refused : {x : Refusal} → r.step ≡ StepRefused x → PairCall s s' (refusal_of x)
-      pair-refused {x} e =
-          let D = step-denied m e in
-          pair-call s s' (refused_as (first-denied D.0 ∙ ap (λ (i : ℕ). refusal x.number i x.place) (sym D.1)))
-
-      pub pair_read : {p j : ℕ} {b : Answer Comparison} → r.step ≡ Next p j → ((x : Kinded) → KeepsKind r.tree x → Answers (beside x (read_tree either s')) b) → PairCall s s' b
-      pair_read e w = let one = step-next m e in pair-call s s' (answers (first-got one.is) (w one.value one.keeps))
+      pub pair_read : {read : TreeRead} {b : Answer Comparison} → Accepts (read_tree either s) read.behind (Reads read) → ((x : Kinded) → KeepsKind read.tree x → Answers (beside x (read_tree either s')) b) → PairCall s s' b
+      pair_read R w = pair-call s s' (answers (rw (le-ltb text_bytes (length s) h, le-ltb text_bytes (length s') k, R.is)) (w R.value R.keeps.keeps))

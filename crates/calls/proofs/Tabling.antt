@@ -16,22 +16,17 @@ use Rattle.meaning.specs.Listing.{tree_of}
 use Rattle.meaning.specs.Answer.{accepted, TableMemory, written}
 use Rattle.meaning.specs.Calls.{table_read, ends, table_slices, table_call_read, table_of, table_call}
 use Rattle.meaning.proofs.EitherKind.{form-length_as}
-use Rattle.meaning.proofs.Lent.{lent-ample}
+use Rattle.meaning.proofs.Lent.{lent-ample, concluded}
 use Rattle.meaning.proofs.Memory.{forms-length, ends-length}
 use Rattle.lent.specs.Runs.{Wrote}
 use Rattle.lent.proofs.Runs.{sets-start, wrote_one, wrote-more, wrote-length}
 use Rattle.held.specs.Kept.{KeepsKind, KeptKindRoom, held_at, KeepsTrees}
 use Rattle.held.specs.declared.Table.{Table}
 use Rattle.held.proofs.Kept.{keeps-good, keeps-kinded}
-use Rattle.tokens.specs.declared.Refusal.{Refusal}
-use Rattle.tokens.specs.declared.Step.TheVariants.{Next, Refused as StepRefused}
-use Rattle.tables.specs.declared.TableRead.{TableRead}
-use Rattle.tables.specs.Lent.{TableLent}
+use Rattle.tables.specs.Lent.{Given}
 use Rattle.calls.specs.Paper.{table_outcome}
 use Rattle.calls.specs.Tabled.{text_slices, TableRoom, TextsWritten, TableWritten}
-use Rattle.calls.specs.declared.TableAnswer.TheVariants.{Written, Refused}
-use Rattle.tables.proofs.Lent.{Given, lent-next, lent-refused}
-use Rattle.meaning.proofs.Lent.{concluded}
+use Rattle.std.specs.Prelude.{Ok}
 
 -- ---- one tree more
 module _ (k : Kind) where
@@ -123,32 +118,26 @@ module _ {table : Table} {memory memory' : TableMemory} {at i : ℕ} (P : Part t
       subst₂ (λ (us : List Topology) (n : ℕ). TextsWritten ts.kind us memory memory' at n) f (e ∙ H.all.count) (P ts H)
 
 -- ---- the table call
-module _ (s : List ℕ) (memory : TableMemory) {r : TableRead} (m : TableLent r (table_call_read s memory)) where
-  pub call-refused : {x : Refusal} → r.step ≡ StepRefused x → table_outcome (Refused x) memory.texts memory.ends ≡ table_call s memory
-  call-refused e = rw (lent-refused m e)
-
-  module _ {p k : ℕ} (e : r.step ≡ Next p k) where
-    read : Given (λ ts. length ts.trees) (KeepsTrees r.table) (table_call_read s memory) k
-    read = lent-next m e
-
-    pub call-room : TableRoom r.table memory
+module _ (s : List ℕ) (memory : TableMemory) where
+  module _ {table : Table} (R : Given (table_call_read s memory) (KeepsTrees table)) where
+    pub call-room : TableRoom table memory
     call-room =
-        let room = lent-ample (table_slices memory) (table_read either s) read.is in
-        record { kept = record { trees = read.value; keeps = read.keeps }; texts_room = room.0; ends_room = room.1 }
+        let room = lent-ample (table_slices memory) (table_read either s) R.is in
+        record { kept = record { trees = R.value; keeps = R.keeps }; texts_room = room.0; ends_room = room.1 }
 
-    pub call-written : {memory' : TableMemory} {n : ℕ} → TableWritten r.table memory memory' n → table_outcome (Written n k) memory'.texts memory'.ends ≡ table_call s memory
+    pub call-written : {memory' : TableMemory} {n : ℕ} → TableWritten table memory memory' n → table_outcome (Ok (record { bytes = n; trees = table.len })) memory'.texts memory'.ends ≡ table_call s memory
     call-written {memory'} {n} w =
-        let ts = read.value.trees in
-        let forms = forms_as read.value.kind ts in
-        let marks = ends read.value.kind 0 ts in
-        let v = w read.value read.keeps in
-        let few = read.keeps.all.few in
+        let ts = R.value.trees in
+        let forms = forms_as R.value.kind ts in
+        let marks = ends R.value.kind 0 ts in
+        let v = w R.value R.keeps in
+        let few = R.keeps.all.few in
         let a : n ≡ length forms = v.0.behind ∙ zero-add (length forms) in
         let b : memory'.texts ≡ written forms memory.texts =
-        v.0.cells ∙ sets-start memory.texts forms (omega (arith, forms-length read.value.kind ts (keeps-good read.keeps.all), few, call-room.texts_room)) in
-        let c : memory'.ends ≡ written marks memory.ends = v.1.cells ∙ sets-start memory.ends marks (omega (arith, ends-length read.value.kind 0 ts, few, call-room.ends_room)) in
-        same n (length forms) k (length ts) memory'.texts (written forms memory.texts) memory'.ends (written marks memory.ends) a read.count b c ∙
-        concluded memory (λ table. table_of table memory) read.is
+        v.0.cells ∙ sets-start memory.texts forms (omega (arith, forms-length R.value.kind ts (keeps-good R.keeps.all), few, call-room.texts_room)) in
+        let c : memory'.ends ≡ written marks memory.ends = v.1.cells ∙ sets-start memory.ends marks (omega (arith, ends-length R.value.kind 0 ts, few, call-room.ends_room)) in
+        same n (length forms) table.len (length ts) memory'.texts (written forms memory.texts) memory'.ends (written marks memory.ends) a R.keeps.all.count b c ∙
+        concluded memory (λ table. table_of table memory) R.is
       where
-        same : (n n' k k' : ℕ) (x x' y y' : List ℕ) → n ≡ n' → k ≡ k' → x ≡ x' → y ≡ y' → table_outcome (Written n k) x y ≡ record { answer = accepted (record { bytes = n'; trees = k' }); memory = record { texts = x'; ends = y' } }
+        same : (n n' k k' : ℕ) (x x' y y' : List ℕ) → n ≡ n' → k ≡ k' → x ≡ x' → y ≡ y' → table_outcome (Ok (record { bytes = n; trees = k })) x y ≡ record { answer = accepted (record { bytes = n'; trees = k' }); memory = record { texts = x'; ends = y' } }
         same n n' k k' x x' y y' a b c d = rw (a, b, c, d)

@@ -1,6 +1,7 @@
 #![tactic(auto)]
-// Numbered entries with a key each: which is the last one before each that has the same key. Number 0 says that there is none.
-ghost use Rattle.std.specs.Prelude.{ℕ, ◌%◌, ◌≤◌, ◌≡◌, length};
+// Numbered entries with a key each: which is the last one before each that has the same key. Number 0 says that there is none:
+// an Option<u16> has twice the bytes, and the memory for the entries, 40,960 bytes an array, is fixed.
+ghost use Rattle.std.specs.Prelude.{ℕ, ◌%◌, ◌≤◌, ◌≡◌, length, unwrap_or};
 ghost use Rattle.chains.specs.Chains.{entries, slots, Last, HasKey, InSlot, Found, Findable};
 
 use held::{Table, Tree};
@@ -19,15 +20,24 @@ impl Entries {
 }
 
 // The last entry with the key k, from `from` down the chain of k's slot.
-fn find(next: &[u16; Entries::SIZE], keys: &[u32; Entries::SIZE], from: usize, k: u32) -> usize
+fn find(
+    next: &[u16; Entries::SIZE],
+    keys: &[u32; Entries::SIZE],
+    from: usize,
+    k: u32,
+) -> Option<usize>
     requires { Findable keys.now next.now from k }
-    ensures { (e : ℕ) → Last (InSlot keys.now (k % slots)) e from → Last (HasKey keys.now k) e result }
+    ensures { (e : ℕ) → Last (InSlot keys.now (k % slots)) e from → Last (HasKey keys.now k) e (unwrap_or result 0) }
 {
     let mut q = from;
-    while q != 0 && keys[q] != k {
-        q = next[q] as usize;
+    // No count: each entry names the next.
+    while q != 0 {
+        if keys[q] == k {
+            return Some(q);
+        }
+        q = usize::from(next[q]);
     }
-    q
+    None
 }
 
 // Notes for each entry from 1 up to `end` the last one before it that has the same key.
@@ -37,11 +47,12 @@ pub fn note_same(same: &mut [u16; Entries::SIZE], keys: &[u32; Entries::SIZE], e
 {
     let mut head = [0u16; Entries::SLOTS];
     let mut next = [0u16; Entries::SIZE];
+    // By index: e is what is kept in the arrays, and the place in three of them. Each e fits a u16, and a u32 has no usize::from.
     for e in 1..end {
         let k = keys[e];
         let slot = (k % (Entries::SLOTS as u32)) as usize;
-        let last = head[slot] as usize;
-        same[e] = find(&next, keys, last, k) as u16;
+        let last = usize::from(head[slot]);
+        same[e] = find(&next, keys, last, k).unwrap_or(0) as u16;
         next[e] = last as u16;
         head[slot] = e as u16;
     }

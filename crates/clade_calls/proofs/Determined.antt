@@ -3,25 +3,26 @@
 use mathlib.Core.Path.{◌≡◌, sym, ap, ◌∙◌}
 use mathlib.Core.List.{List}
 use Prim.Native.Nat.{ℕ}
+use Rattle.std.specs.Prelude.{Result}
 use Rattle.meaning.specs.Answer.{Outcome}
-use Rattle.meaning.proofs.Logic.{clash}
-use Rattle.tokens.proofs.Steps.{refusal-one}
+use Rattle.tokens.specs.declared.Refusal.{Refusal}
+use Rattle.tokens.proofs.Refusals.{answer-one}
 use Rattle.families.specs.SupportCall.{SupportSize, SupportMemory, support_call}
-use Rattle.clade_calls.specs.Paper.{support_answer, support_outcome}
-use Rattle.clade_calls.specs.declared.SupportAnswer.{SupportAnswer}
-use Rattle.clade_calls.specs.declared.SupportAnswer.TheVariants.{Listed, Refused}
+use Rattle.clade_calls.specs.Paper.{size_of, support_answer, support_outcome}
+use Rattle.clade_calls.specs.declared.SupportSize.{SupportSize as Size}
 
 -- an answer is its paper's numbers
-pub support-one : (r r' : SupportAnswer) → support_answer r ≡ support_answer r' → r ≡ r'
-support-one (Listed n m k) (Listed n' m' k') e =
-    let x : ◌≡◌ {A = SupportSize} (record { clades = n; bytes = m; trees = k }) (record { clades = n'; bytes = m'; trees = k' }) = cc in
-    rw (ap (λ (z : SupportSize). z.clades) x, ap (λ (z : SupportSize). z.bytes) x, ap (λ (z : SupportSize). z.trees) x)
-support-one (Listed n m k) (Refused y) e = clash cc
-support-one (Refused x) (Listed n m k) e = clash cc
-support-one (Refused x) (Refused y) e = ap Refused (refusal-one e)
+size-one : (x y : Size) → size_of x ≡ size_of y → x ≡ y
+size-one x y e = record-of (ap (λ (z : SupportSize). z.clades) e) (ap (λ (z : SupportSize). z.bytes) e) (ap (λ (z : SupportSize). z.trees) e)
+  where
+    record-of : {n n' m m' k k' : ℕ} → n ≡ n' → m ≡ m' → k ≡ k' → ◌≡◌ {A = Size} (record { clades = n; bytes = m; trees = k }) (record { clades = n'; bytes = m'; trees = k' })
+    record-of e f g = rw (e, f, g)
+
+pub support-one : (r r' : Result Size Refusal) → support_answer r ≡ support_answer r' → r ≡ r'
+support-one r r' e = answer-one size_of size-one r r' e
 
 -- the support call
-pub support-call-determined : (s : List ℕ) (memory : SupportMemory) (r r' : SupportAnswer) {clades clades' numbers numbers' text text' : List ℕ}
+pub support-call-determined : (s : List ℕ) (memory : SupportMemory) (r r' : Result Size Refusal) {clades clades' numbers numbers' text text' : List ℕ}
     → support_outcome r clades numbers text ≡ support_call s memory → support_outcome r' clades' numbers' text' ≡ support_call s memory
     → (r ≡ r') × (clades ≡ clades') × (numbers ≡ numbers') × (text ≡ text')
 support-call-determined s memory r r' e f =

@@ -18,7 +18,7 @@ use Rattle.meaning.proofs.Lists.{number, numbered}
 use Rattle.meaning.proofs.Canon.{canon-≈}
 use Rattle.meaning.proofs.Clade.{clade-≈}
 use Rattle.meaning.proofs.Calls.{tells-accepted}
-use Rattle.meaning.proofs.Lent.{lent-ample, concluded}
+use Rattle.meaning.proofs.Lent.{lent-ample}
 use Rattle.lent.specs.Runs.{Wrote}
 use Rattle.lent.proofs.Runs.{sets-start, wrote-length}
 use Rattle.held.specs.Kept.{Keeps, KeepsAll, KeepsTrees}
@@ -26,14 +26,10 @@ use Rattle.held.specs.declared.Tree.{Tree}
 use Rattle.held.specs.declared.Table.{Table}
 use Rattle.held.proofs.Kept.{keeps-holds}
 use Rattle.held.proofs.Laws.{unique}
-use Rattle.tokens.specs.declared.Refusal.{Refusal}
-use Rattle.tokens.specs.declared.Step.TheVariants.{Next, Refused as StepRefused}
-use Rattle.tables.specs.declared.TableRead.{TableRead}
-use Rattle.tables.specs.Lent.{TableLent}
-use Rattle.tables.proofs.Lent.{Given, lent-next, lent-refused}
+use Rattle.tables.specs.Lent.{Given}
 use Rattle.families.specs.Support.{holders, supported, support, max_clades}
 use Rattle.families.specs.Majority.{majority_text}
-use Rattle.families.specs.SupportCall.{SupportMemory, support_slices, support_read, support_of, support_call}
+use Rattle.families.specs.SupportCall.{SupportMemory, support_slices, support_read, support_of}
 use Rattle.families.proofs.Support.{OneSet, supported-9921}
 use Rattle.families.proofs.Tables.{whole_of, one_set}
 use Rattle.families.proofs.MajorityText.{majority-length}
@@ -43,8 +39,7 @@ use Rattle.support.proofs.Supports.{kept-good, begins}
 use Rattle.majority.specs.Texts.{MajorityRoom}
 use Rattle.clade_calls.specs.Paper.{support_outcome}
 use Rattle.clade_calls.specs.Tabled.{SupportCallRoom}
-use Rattle.clade_calls.specs.declared.SupportAnswer.{SupportAnswer}
-use Rattle.clade_calls.specs.declared.SupportAnswer.TheVariants.{Listed, Refused}
+use Rattle.std.specs.Prelude.{Ok}
 
 -- ---- one label set
 -- trees that one record keeps have one label set
@@ -97,7 +92,7 @@ module _ {table : Table} {memory : SupportMemory} (R : SupportCallRoom table mem
 
     -- all three slices are as the definition says, and so are the numbers
     pub support-written : {text' : List ℕ} {m k : ℕ} → ((ts : List Topology) → KeepsAll table ts → Wrote (majority_text ts) memory.text text' 0 m)
-        → (ts : List Topology) → KeepsAll table ts → k ≡ length ts → support_outcome (Listed n m k) clades' numbers' text' ≡ support_of ts memory
+        → (ts : List Topology) → KeepsAll table ts → k ≡ length ts → support_outcome (Ok (record { clades = n; bytes = m; trees = k })) clades' numbers' text' ≡ support_of ts memory
     support-written W ts H e =
         let s = S ts H in
         let w = W ts H in
@@ -109,32 +104,20 @@ module _ {table : Table} {memory : SupportMemory} (R : SupportCallRoom table mem
         (w.cells ∙ sets-start memory.text (majority_text ts) (omega (arith, text-few ts H, R.text-room)))
       where
         same : {n n' m m' k k' : ℕ} {x x' y y' z z' : List ℕ} → n ≡ n' → m ≡ m' → k ≡ k' → x ≡ x' → y ≡ y' → z ≡ z'
-            → support_outcome (Listed n m k) x y z ≡ record { answer = accepted (record { clades = n'; bytes = m'; trees = k' }); memory = record { clades = x'; numbers = y'; text = z' } }
+            → support_outcome (Ok (record { clades = n; bytes = m; trees = k })) x y z ≡ record { answer = accepted (record { clades = n'; bytes = m'; trees = k' }); memory = record { clades = x'; numbers = y'; text = z' } }
         same a b c d e f = rw (a, b, c, d, e, f)
 
 -- ---- the support call
-module _ (s : List ℕ) (memory : SupportMemory) {r : TableRead} (m : TableLent r (support_read s memory)) where
-  pub call-refused : {x : Refusal} → r.step ≡ StepRefused x → support_outcome (Refused x) memory.clades memory.numbers memory.text ≡ support_call s memory
-  call-refused e = rw (lent-refused m e)
-
-  module _ {p k : ℕ} (e : r.step ≡ Next p k) where
-    read : Given (λ ts. length ts.trees) (KeepsTrees r.table) (support_read s memory) k
-    read = lent-next m e
-
-    pub call-room : SupportCallRoom r.table memory
-    call-room =
-        let ts = read.value.trees in
-        let room = lent-ample (support_slices memory) (table_read rooted_only s) read.is in
-        record {
-          kept = record { trees = ts; keeps = read.keeps.all };
-          whole = whole_of ts;
-          one = λ us H. kept-one ts us read.keeps.all H (one_set (tells-accepted (support-tells s memory) read.is));
-          clades_room = room.0;
-          numbers_room = room.1.0;
-          text-room = room.1.1;
-        }
-
-    pub call-written : (answer : SupportAnswer) {clades' numbers' text' : List ℕ}
-        → ((ts : List Topology) → KeepsAll r.table ts → k ≡ length ts → support_outcome answer clades' numbers' text' ≡ support_of ts memory)
-        → support_outcome answer clades' numbers' text' ≡ support_call s memory
-    call-written answer w = w read.value.trees read.keeps.all read.count ∙ concluded memory (λ table. support_of table.trees memory) read.is
+module _ (s : List ℕ) (memory : SupportMemory) {table : Table} (R : Given (support_read s memory) (KeepsTrees table)) where
+  pub call-room : SupportCallRoom table memory
+  call-room =
+      let ts = R.value.trees in
+      let room = lent-ample (support_slices memory) (table_read rooted_only s) R.is in
+      record {
+        kept = record { trees = ts; keeps = R.keeps.all };
+        whole = whole_of ts;
+        one = λ us H. kept-one ts us R.keeps.all H (one_set (tells-accepted (support-tells s memory) R.is));
+        clades_room = room.0;
+        numbers_room = room.1.0;
+        text-room = room.1.1;
+      }

@@ -16,7 +16,10 @@ use Rattle.meaning.specs.Clade.{clade}
 use Rattle.meaning.proofs.Same.{good-first, good-second}
 use Rattle.meaning.proofs.Clade.{clade-fits}
 use Rattle.held.specs.Held.{nodes, Holds}
-use Rattle.held.proofs.Laws.{children, unique, some-nodes, ForkAt, fork-nodes, leafed, forked, second_at}
+use Rattle.held.specs.Node.{subtree, Children}
+use Rattle.held.specs.declared.node.Node.{Node}
+use Rattle.held.proofs.Laws.{children, some-nodes}
+use Rattle.held.proofs.Subtree.{node-holds, at-node, children-nodes}
 use Rattle.clades.specs.Marks.{Marks}
 
 -- a good tree is held at k and ends before `end`
@@ -58,38 +61,35 @@ marks-more f xs m k to v room own marks i le lt s h = go (ℕ_discrete k i)
     go (yes e) = ap (λ (j : ℕ). get_or (set m k v) j 0) (sym e) ∙ get_or-set_same m k v 0 room ∙ own s (rw e h)
     go (no n) = get_or-set_other m k i v 0 (λ e. n (sym e)) ∙ marks i (omega arith) lt s h
 
--- where the byte is a label, the shifted bit is the clade
-shifted : (l : ℕ) → l ≤ max_label → (1 * 2 ^ (l - 1)) % 18446744073709551616 ≡ 2 ^ (l - 1)
-shifted l h = shl_exact {a = 1} 1 (l - 1) 64 (lit< tt) (omega arith) ∙ one-mul (2 ^ (l - 1))
+-- a label's bit, shifted, is the clade of its leaf
+pub bit_is : (l : ℕ) → l ≤ max_label → {t : Tree} → t ≡ leaf l → (1 * 2 ^ (l - 1)) % 18446744073709551616 ≡ clade t
+bit_is l h e = shl_exact {a = 1} 1 (l - 1) 64 (lit< tt) (omega arith) ∙ one-mul (2 ^ (l - 1)) ∙ sym (ap clade e)
 
-pub bit_is : (xs : List ℕ) (k : ℕ) → get_or xs k 0 ≤ max_label → (t : Tree) → Holds xs k t → (1 * 2 ^ (get_or xs k 0 - 1)) % 18446744073709551616 ≡ clade t
-bit_is xs k small t h = shifted (get_or xs k 0) small ∙ sym (ap clade (leafed h small))
+-- the node x at k
+module _ {xs : List ℕ} {k end : ℕ} (s : Sub xs k end) (x : Node) (at : (x.tree.now ≡ xs) × (x.at ≡ k)) where
+  pub label-range : {l : ℕ} → subtree x ≡ leaf l → (1 ≤ l) × (l ≤ max_label)
+  label-range {l} e = s.good.small l (subst (λ (t : Tree). In l t) (sym e ∙ at-node x at s.holds) tip)
 
-module _ {xs : List ℕ} {k end : ℕ} (s : Sub xs k end) where
-  pub label-range : get_or xs k 0 ≤ max_label → (1 ≤ get_or xs k 0) × (get_or xs k 0 ≤ max_label)
-  label-range small = s.good.small (get_or xs k 0) (subst (λ (t : Tree). In (get_or xs k 0) t) (sym (leafed s.holds small)) tip)
+  module _ {a b : Node} (c : Children x a b) where
+    pub behind : (k < a.at) × (a.at < b.at) × (b.at < end)
+    behind = (
+      omega (arith, at.1, c.first_at),
+      omega (arith, c.first_at, c.second_at, some-nodes (subtree a)),
+      omega (arith, at.1, c.second_at, ap nodes (at-node x at s.holds), children-nodes c, s.inside, some-nodes (subtree b)),
+    )
 
-  -- where it is not, the subtree is a fork
-  pub fork-of : max_label < get_or xs k 0 → ForkAt xs k s.tree
-  fork-of large = forked s.holds large
+    -- what is marked at its children
+    module _ (f : Tree → ℕ) (m : List ℕ) (marks : Marks f xs m (k + 1) end) where
+      pub first-is : get_or m a.at 0 ≡ f (subtree a)
+      first-is = marks a.at (omega (arith, behind)) (omega (arith, behind)) (subtree a) (subst (λ (ys : List ℕ). Holds ys a.at (subtree a)) (c.first_in ∙ at.0) (node-holds a))
 
-  module _ (large : max_label < get_or xs k 0) where
-    abbrev f : ForkAt xs k s.tree
-    f = fork-of large
+      pub second_is : get_or m b.at 0 ≡ f (subtree b)
+      second_is = marks b.at (omega (arith, behind)) (omega (arith, behind)) (subtree b) (subst (λ (ys : List ℕ). Holds ys b.at (subtree b)) (c.second_in ∙ at.0) (node-holds b))
 
-    pub behind : (w : ℕ) → w ≡ nodes f.first → k + 1 + w < end
-    behind w e = omega (arith, fork-nodes f, s.inside, some-nodes f.second)
+    -- the sum of their clades is its clade, and it fits
+    module _ (m : List ℕ) (marks : Marks clade xs m (k + 1) end) where
+      pub sum_is : get_or m a.at 0 + get_or m b.at 0 ≡ clade (subtree x)
+      sum_is = ap₂ ◌+◌ (first-is clade m marks) (second_is clade m marks) ∙ sym (ap clade c.is)
 
-    -- where its children are marked, their sum is its clade, and it fits
-    module _ (w : ℕ) (e : w ≡ nodes f.first) (m : List ℕ) (marks : Marks clade xs m (k + 1) end) where
-      first-is : get_or m (k + 1) 0 ≡ clade f.first
-      first-is = marks (k + 1) (omega arith) (omega (arith, behind w e)) f.first f.holds-first
-
-      second_is : get_or m (k + 1 + w) 0 ≡ clade f.second
-      second_is = marks (k + 1 + w) (omega arith) (behind w e) f.second (second_at f w e)
-
-      pub sum_is : (t : Tree) → Holds xs k t → get_or m (k + 1) 0 + get_or m (k + 1 + w) 0 ≡ clade t
-      sum_is t h = ap₂ ◌+◌ first-is second_is ∙ sym (ap clade (unique h s.holds ∙ f.is))
-
-      pub sum_fits : get_or m (k + 1) 0 + get_or m (k + 1 + w) 0 < 18446744073709551616
-      sum_fits = omega (arith, sum_is s.tree s.holds, clade-fits s.good)
+      pub sum_fits : get_or m a.at 0 + get_or m b.at 0 < 18446744073709551616
+      sum_fits = omega (arith, sum_is, ap clade (at-node x at s.holds), clade-fits s.good)

@@ -1,6 +1,6 @@
 -- The text of an entry, written from the slot of its tree.
 -- Assumes nothing.
-use mathlib.Core.Path.{◌≡◌, refl, sym, ap, subst, ◌∙◌}
+use mathlib.Core.Path.{◌≡◌, refl, sym, ap, ◌∙◌}
 use mathlib.Core.List.{List}
 use Prim.Native.Nat.{ℕ, ◌*◌, ◌-◌, ◌≤◌, ◌<◌}
 use native.Mathlib.Omega.{arith}
@@ -21,8 +21,6 @@ use Rattle.holdings.specs.Memory.{Shelved}
 use Rattle.writing.specs.Writing.{ForestFits}
 use Rattle.slots.specs.Records.{tree_in}
 use Rattle.slots.proofs.Shelving.{slot-keeps, one-shelved}
-use Rattle.entries.specs.declared.Text.{Text}
-use Rattle.entries.specs.Texts.{HasText}
 use Rattle.entries.specs.Places.{HasEntry}
 
 -- what has cuts has a tree
@@ -65,15 +63,12 @@ module _ {memory : List ℕ} {x c : ℕ} (E : HasEntry memory (x, c)) where
   entry-fits = record { topology = tree; keeps = keeps; is_cut = is_cut; room = omega (arith, short) }
 
   -- and that is what was written
-  pub entry-text : {text : Text} (out : List ℕ) → length out ≡ forest_bytes → ((t : Tree) → Keeps (tree_in memory x) t → Wrote (forest (cut_at t c)) out text.bytes 0 text.len)
-      → (hs : List Slot) → Shelved hs memory → HasText text (entry_text hs (x, c))
-  entry-text {text} out long wrote hs S =
+  pub entry-text : {bytes : List ℕ} {len : ℕ} (out : List ℕ) → length out ≡ forest_bytes → ((t : Tree) → Keeps (tree_in memory x) t → Wrote (forest (cut_at t c)) out bytes 0 len)
+      → (len ≤ forest_bytes) × ((hs : List Slot) → Shelved hs memory → take len bytes ≡ entry_text hs (x, c))
+  entry-text {bytes} {len} out long wrote =
       let w = wrote tree keeps in
-      let count : text.len ≡ length (forest (cut_at tree c)) = omega (arith, w.behind) in
-      let own : HasText text (forest (cut_at tree c)) = record {
-        count = count;
-        fits = short;
-        bytes = ap (λ (k : ℕ). take k text.bytes) (sym count) ∙ written-first w (omega (arith, short));
-      } in
-      let same : forest (cut_at tree c) ≡ entry_text hs (x, c) = ap (λ (h : Slot). forest_of h c) (sym has) ∙ ap (λ (l : List Slot). entry_text l (x, c)) (one-shelved E.shelved S) in
-      subst (HasText text) same own
+      let count : len ≡ length (forest (cut_at tree c)) = omega (arith, w.behind) in
+      let own : take len bytes ≡ forest (cut_at tree c) = written-first w (omega (arith, short)) in (
+        omega (arith, short),
+        λ hs S. own ∙ ap (λ (h : Slot). forest_of h c) (sym has) ∙ ap (λ (l : List Slot). entry_text l (x, c)) (one-shelved E.shelved S),
+      )

@@ -1,4 +1,3 @@
-pub mod Agree
 pub mod EntryTexts
 pub mod Parting
 pub mod Passing

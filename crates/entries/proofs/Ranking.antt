@@ -1,82 +1,53 @@
 -- The order of entries, each given by its text and its two numbers: what comparing texts tells of it.
 -- Assumes nothing.
-use mathlib.Core.Path.{◌≡◌, refl, sym, ◌∙◌}
-use mathlib.Core.Bool.{Bool, true, false, ◌&&◌, ◌||◌}
-use mathlib.Core.List.{List, [], ◌∷◌}
-use Prim.Native.Nat.{ℕ}
-use native.Mathlib.Omega.{arith}
-use lib.Dec.{T, not_T, ltb, eqb}
+use Rattle.std.proofs.Common.{◌≡◌, refl, sym, ap, List, [], ◌∷◌, ℕ, arith}
+use Rattle.std.specs.declared.cmp.Ordering.{Ordering}
+use Rattle.std.specs.declared.cmp.Ordering.TheVariants.{Less, Equal, Greater}
+use Rattle.std.specs.Ordering.{nat_cmp, ordering_then, is_lt, is_gt, is_eq}
+use Rattle.std.specs.Cmp.Lexicographic.{slice_cmp}
+use Rattle.std.proofs.lemmas.Cmp.{same_from_slice_cmp}
+use Rattle.std.proofs.lemmas.Bool.Decides.{nat_tests}
+use Rattle.std.proofs.lemmas.Map.Lookups.{exact_bytes}
+use lib.Dec.{not_T}
 use lib.Ieee.Bits.{is_true, is_false}
-use borrow.Author.Tests.{eq-eqb, ne_eqb, le-ltb}
+use Rattle.lent.specs.Runs.{Says}
 use Rattle.meaning.specs.Sorted.{lesser}
-use Rattle.meaning.specs.Listing.{Pair}
-use Rattle.meaning.proofs.Logic.{clash}
 use Rattle.meaning.proofs.Lesser.{lesser-irrefl, lesser-asym}
 use Rattle.holdings.specs.Entries.{ranks}
-use Rattle.entries.specs.declared.Order.{Order}
-use Rattle.entries.specs.declared.Order.TheVariants.{Less, Same, More}
 use Rattle.entries.specs.Texts.{Compared, first, both, second}
 
--- a test beside one that never passes
-alone : (a b : Bool) → b ≡ (b || (a && false))
-alone a true = refl
-alone true false = refl
-alone false false = refl
-
--- the lesser of two pairs of numbers
-by-cut : (x y c d : ℕ) → x ≡ y → ltb c d ≡ lesser (x ∷ c ∷ []) (y ∷ d ∷ [])
+-- std's order of slices is that of texts
+less-is : (xs ys : List ℕ) (o : Ordering) → o ≡ slice_cmp nat_cmp xs ys → is_lt o ≡ lesser xs ys
 unfolding lesser
-by-cut x y c d i = rw (le-ltb x y (omega arith), eq-eqb x y i) (alone (eqb c d) (ltb c d))
+less-is = same_from_slice_cmp nat_cmp is_lt lesser refl (λ _ _. refl) (λ _ _. refl) (λ x y xs ys o h. grind (arith, nat_tests))
 
-by-tree : (x y c d : ℕ) → ¬ (x ≡ y) → ltb x y ≡ lesser (x ∷ c ∷ []) (y ∷ d ∷ [])
+more-is : (xs ys : List ℕ) (o : Ordering) → o ≡ slice_cmp nat_cmp xs ys → is_gt o ≡ lesser ys xs
 unfolding lesser
-by-tree x y c d n = rw (ne_eqb x y n) (alone false (ltb x y))
+more-is = same_from_slice_cmp nat_cmp is_gt (λ xs ys. lesser ys xs) refl (λ _ _. refl) (λ _ _. refl) (λ x y xs ys o h. grind (arith, nat_tests))
 
--- what comparing tells
-module _ {xs ys : List ℕ} {o : Order} (told : Compared xs ys o) where
-  pub told-less : o ≡ Less → T (lesser xs ys)
-  told-less e = by told e
-    where
-      by : {o : Order} → Compared xs ys o → o ≡ Less → T (lesser xs ys)
-      by (first t) e = t
-      by (both d) e = clash cc
-      by (second t) e = clash cc
+pub compared : (xs ys : List ℕ) (o : Ordering) → o ≡ slice_cmp nat_cmp xs ys → Compared xs ys o
+compared xs ys Less e = first (rw (← less-is xs ys Less e) tt)
+compared xs ys Equal e = both (exact_bytes xs ys (sym e))
+compared xs ys Greater e = second (rw (← more-is xs ys Greater e) tt)
 
-  pub told_same : o ≡ Same → xs ≡ ys
-  told_same e = by told e
-    where
-      by : {o : Order} → Compared xs ys o → o ≡ Same → xs ≡ ys
-      by (first t) e = clash cc
-      by (both d) e = d
-      by (second t) e = clash cc
+-- the texts are the same where neither is the lesser
+pub same-said : {xs ys : List ℕ} {o : Ordering} → Compared xs ys o → Says (is_eq o) (xs ≡ ys)
+same-said {xs} {ys} (first t) = λ e. lesser-irrefl xs ys e t
+same-said (both e) = e
+same-said {xs} {ys} (second t) = λ e. lesser-irrefl ys xs (sym e) t
 
-  pub told_more : o ≡ More → T (lesser ys xs)
-  told_more e = by told e
-    where
-      by : {o : Order} → Compared xs ys o → o ≡ More → T (lesser ys xs)
-      by (first t) e = clash cc
-      by (both d) e = clash cc
-      by (second t) e = t
+then-equal : (o : Ordering) → ordering_then o Equal ≡ o
+then-equal Less = refl
+then-equal Equal = refl
+then-equal Greater = refl
 
-  -- the lesser text goes first
-  pub ranks-less : (p q : Pair) → o ≡ Less → true ≡ ranks xs p ys q
-  ranks-less p q e = rw (is_true (lesser xs ys) (told-less e))
-
-  pub ranks-more : (p q : Pair) → o ≡ More → false ≡ ranks xs p ys q
-  ranks-more p q e =
-      let t = told_more e in
-      rw (is_true (lesser ys xs) t, is_false (lesser xs ys) (not_T (lesser xs ys) (λ s. lesser-asym xs ys s t)))
-
-  -- of one text the smaller tree, and of one tree the smaller cut
-  module _ (x y c d : ℕ) (e : o ≡ Same) where
-    tied : lesser (x ∷ c ∷ []) (y ∷ d ∷ []) ≡ ranks xs (x, c) ys (y, d)
-    tied =
-        let n = is_false (lesser xs ys) (not_T (lesser xs ys) (lesser-irrefl xs ys (told_same e))) in
-        let n' = is_false (lesser ys xs) (not_T (lesser ys xs) (lesser-irrefl ys xs (sym (told_same e)))) in
-        rw (n, n')
-
-    pub ranks-cut : x ≡ y → ltb c d ≡ ranks xs (x, c) ys (y, d)
-    ranks-cut i = by-cut x y c d i ∙ tied
-
-    pub ranks-tree : ¬ (x ≡ y) → ltb x y ≡ ranks xs (x, c) ys (y, d)
-    ranks-tree n = by-tree x y c d n ∙ tied
+-- of one text the smaller tree goes first, and of one tree the smaller cut
+pub ranked : {xs ys : List ℕ} {o : Ordering} → Compared xs ys o → (x c y d : ℕ)
+    → is_lt (ordering_then o (ordering_then (nat_cmp x y) (nat_cmp c d))) ≡ ranks xs (x, c) ys (y, d)
+ranked {xs} {ys} (first t) x c y d = rw (is_true (lesser xs ys) t) refl
+ranked {xs} {ys} (both e) x c y d =
+    let n = is_false (lesser xs ys) (not_T (lesser xs ys) (lesser-irrefl xs ys e)) in
+    let n' = is_false (lesser ys xs) (not_T (lesser ys xs) (lesser-irrefl ys xs (sym e))) in
+    rw (n, n') (less-is (x ∷ c ∷ []) (y ∷ d ∷ []) _ (ap (ordering_then (nat_cmp x y)) (sym (then-equal (nat_cmp c d)))))
+ranked {xs} {ys} (second t) x c y d =
+    rw (is_true (lesser ys xs) t, is_false (lesser xs ys) (not_T (lesser xs ys) (λ s. lesser-asym xs ys s t))) refl

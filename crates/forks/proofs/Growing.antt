@@ -1,59 +1,41 @@
--- The first child of a clade by a walk from behind the last clade to the first.
+-- The first child of a clade when one clade more is looked at.
 -- Assumes nothing.
-use mathlib.Core.Path.{◌≡◌, refl, sym, ap, ◌∙◌}
+use mathlib.Core.Path.{◌≡◌, refl, ap, ◌∙◌}
 use mathlib.Core.Bool.{Bool, true, false, cond, not, ◌&&◌}
-use mathlib.Core.List.{List}
-use Prim.Native.Nat.{ℕ, suc, ◌-◌, ◌≤◌, ◌<◌, max}
+use mathlib.Core.List.{List, [], ◌∷◌, ◌++◌}
+use Prim.Native.Nat.{ℕ, ◌+◌, ◌<◌, max}
 use native.Mathlib.Omega.{arith}
 use lib.Dec.{eqb}
-use lib.ListN.{length, get_or}
-use lib.Seq.{slice, slice_empty, slice-cons}
+use lib.ListN.{length, get_or, take}
+use Rattle.std.proofs.lemmas.List.{take_more}
 use Rattle.meaning.specs.Clade.{inside}
 use Rattle.families.specs.Grown.{low_bit, leads, first_child}
 
--- d leads in c: inside, smaller, with the smallest label
-module _ (c d : ℕ) where
-  pub leads-whole : eqb d c ≡ true → false ≡ leads c d
-  unfolding leads
-  leads-whole e = go (inside d c)
-    where
-      go : (b : Bool) → false ≡ (b && (not (eqb d c) && inside (low_bit c) d))
-      go true = rw e
-      go false = refl
+larger : Bool → ℕ → ℕ → ℕ
+larger b d best = cond b (max d best) best
 
-  pub leads-outside : inside d c ≡ false → false ≡ leads c d
-  unfolding leads
-  leads-outside e = rw e
+larger_comm : (a b : Bool) (d e best : ℕ) → cond a (max d (cond b (max e best) best)) (cond b (max e best) best) ≡ cond b (max e (cond a (max d best) best)) (cond a (max d best) best)
+larger_comm true true d e best = omega arith
+larger_comm true false d e best = refl
+larger_comm false true d e best = refl
+larger_comm false false d e best = refl
 
-  pub leads-low : eqb d c ≡ false → inside d c ≡ true → inside (low_bit c) d ≡ leads c d
-  unfolding leads
-  leads-low f e = rw (e, f)
-
--- none of the clades is looked at: the smallest label alone
-pub first-none : (cs : List ℕ) (k c : ℕ) → low_bit c ≡ first_child (slice k k cs) c
+pub first_child_push : (ds : List ℕ) (d c : ℕ) → first_child (ds ++ d ∷ []) c ≡ cond (leads c d) (max d (first_child ds c)) (first_child ds c)
 unfolding first_child
-first-none cs k c = rw (slice_empty k cs)
+first_child_push [] d c = refl
+first_child_push (e ∷ ds) d c =
+    ap (λ (m : ℕ). cond (leads c e) (max e m) m) (first_child_push ds d c) ∙ larger_comm (leads c e) (leads c d) e d (first_child ds c)
 
--- `best` is the first child by the clades from place i on; one more is looked at
-module _ (cs : List ℕ) (k c i best : ℕ) (some : 0 < i) (few : i ≤ k) (fits : k ≤ length cs) (so : best ≡ first_child (slice i k cs) c) where
-  abbrev d : ℕ
-  d = get_or cs (i - 1) 0
+-- ---- what a walk along the clades finds
+pub first_child_none : (c : ℕ) → first_child [] c ≡ low_bit c
+unfolding first_child
+first_child_none c = refl
 
-  here : first_child (slice (i - 1) k cs) c ≡ cond (leads c d) (max d best) best
-  unfolding first_child
-  here =
-      let e : i ≡ suc (i - 1) = omega (arith, some) in
-      ap (λ (l : List ℕ). first_child l c) (slice-cons (i - 1) k cs 0 (omega (arith, some, few)) fits)
-      ∙ ap (λ (x : ℕ). cond (leads c d) (max d x) x) (ap (λ (j : ℕ). first_child (slice j k cs) c) (sym e) ∙ sym so)
+pub first_child_more : (xs : List ℕ) (i c : ℕ) → i < length xs
+    → first_child (take (i + 1) xs) c ≡ cond (leads c (get_or xs i 0)) (max (get_or xs i 0) (first_child (take i xs) c)) (first_child (take i xs) c)
+first_child_more xs i c lt = ap (λ l. first_child l c) (take_more xs i 0 lt) ∙ first_child_push (take i xs) (get_or xs i 0) c
 
-  -- it leads, and is the larger
-  pub first-larger : leads c d ≡ true → best < d → d ≡ first_child (slice (i - 1) k cs) c
-  first-larger e h = let m : d ≡ max d best = omega (arith, h) in m ∙ sym (here ∙ ap (λ (q : Bool). cond q (max d best) best) e)
-
-  -- it leads, and is not the larger
-  pub first-smaller : leads c d ≡ true → d ≤ best → best ≡ first_child (slice (i - 1) k cs) c
-  first-smaller e h = let m : best ≡ max d best = omega (arith, h) in m ∙ sym (here ∙ ap (λ (q : Bool). cond q (max d best) best) e)
-
-  -- it does not lead
-  pub first-passed : leads c d ≡ false → best ≡ first_child (slice (i - 1) k cs) c
-  first-passed e = sym (here ∙ ap (λ (q : Bool). cond q (max d best) best) e)
+-- ---- a clade that leads is a smaller one inside, with the smallest label
+pub leads_is : (c d : ℕ) → leads c d ≡ inside d c && (not (eqb d c) && inside (low_bit c) d)
+unfolding leads
+leads_is c d = refl

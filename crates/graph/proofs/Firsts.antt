@@ -1,10 +1,11 @@
 -- The first positions that were noted, and the room for their links.
 -- Assumes nothing.
 use mathlib.Core.Path.{ap, ◌∙◌}
+use mathlib.Core.Bool.{false}
 use mathlib.Core.List.{List}
 use Prim.Native.Nat.{ℕ}
 use native.Mathlib.Omega.{arith}
-use lib.ListN.{length, get_or, replicate, length-replicate}
+use lib.ListN.{length, get_or, replicate}
 use Rattle.meaning.specs.Tree.{Tree as Topology}
 use Rattle.meaning.specs.Copies.{first_of, firsts_of}
 use Rattle.meaning.specs.Answer.{GraphMemory}
@@ -13,13 +14,14 @@ use Rattle.lent.specs.Runs.{Wrote}
 use Rattle.lent.proofs.Runs.{sets-at, wrote-length}
 use Rattle.held.specs.Kept.{KeepsAll}
 use Rattle.held.specs.declared.Table.{Table}
-use Rattle.sharing.specs.Links.{link_bytes}
+use Rattle.meaning.specs.Limits.{max_trees}
+use Rattle.sharing.proofs.Links.{none-square}
 use Rattle.links.specs.Copies.{FirstsRoom}
 use Rattle.graph.specs.Copies.{GraphRoom}
 
--- the firsts that were noted, and bytes of zeros, are room for the links of first positions
+-- the firsts that were noted, and flags that link none, are room for the links of first positions
 pub firsts-room : {table : Table} {memory : GraphMemory} {firsts firsts' : List ℕ} → GraphRoom table memory firsts
-    → ((ts : List Topology) → KeepsAll table ts → Wrote (firsts_of ts) firsts firsts' 0 (length ts)) → FirstsRoom table firsts' (replicate link_bytes 0)
+    → ((ts : List Topology) → KeepsAll table ts → Wrote (firsts_of ts) firsts firsts' 0 (length ts)) → FirstsRoom table firsts' (replicate max_trees (replicate max_trees false))
 firsts-room {firsts} room w =
     let k = room.kept in
     record {
@@ -29,5 +31,5 @@ firsts-room {firsts} room w =
           ∙ sets-at 0 firsts (firsts_of ts) (omega (arith, map-length (first_of ts) (length ts), h.few, room.firsts-room)) i (omega (arith, map-length (first_of ts) (length ts)))
           ∙ map_at (first_of ts) (length ts) i inside;
       lent = omega (arith, room.firsts-room, wrote-length (w k.trees k.keeps));
-      bytes = length-replicate {A = ℕ} link_bytes 0;
+      square = none-square;
     }

@@ -2,12 +2,13 @@
 -- Assumes nothing.
 use mathlib.Core.Path.{◌≡◌, refl, sym, ap, ◌∙◌}
 use mathlib.Core.Logic.{◌↔◌}
+use mathlib.Core.Bool.{Bool, true, false}
 use mathlib.Core.List.{List, [], ◌∷◌, ◌++◌, append_assoc, append-nil}
-use Prim.Native.Nat.{ℕ, ◌+◌, ◌*◌, ◌≤◌, ◌<◌}
+use Prim.Native.Nat.{ℕ, ◌+◌, ◌≤◌, ◌<◌}
 use native.Mathlib.Nat.{zero-add}
 use native.Mathlib.Omega.{arith}
-use borrow.Author.Tests.{eq-eqb, ne_eqb}
-use lib.Dec.{eqb→eq, eqb_refl}
+use Rattle.std.proofs.lemmas.Bool.{false≢true}
+use lib.Dec.{T}
 use lib.ListN.{length, get_or, replicate, length-append}
 use Rattle.meaning.specs.Listing.{Pair, Listing, flat}
 use Rattle.meaning.specs.Loops.{row_of, pairs_of}
@@ -89,22 +90,27 @@ pair-room {i} {j} {memory} h l room = record {
   grows' = omega (arith, room.grow j l, more-le memory.counts i j);
 }
 
+-- a test that passes is true
+told : (b : Bool) → T b ↔ (b ≡ true)
+told true = (λ _. refl, λ _. tt)
+told false = (λ t. absurd t, λ e. absurd (false≢true e))
+
 -- ---- the linked positions among k
-module _ (links : List ℕ) (k : ℕ) where
+module _ (links : List (List Bool)) (k : ℕ) where
   -- row i from column j on: with that column, or without it
   pub row-takes : (i j : ℕ) → j < k → LinkedIn links i j → row_of i j k (is_linked links) ≡ (i, j) ∷ row_of i (j + 1) k (is_linked links)
-  row-takes i j l e = rw (eq-eqb (get_or links (i * 160 + j) 0) 1 e) at (row_step k (is_linked links) i j l)
+  row-takes i j l e = rw e at (row_step k (is_linked links) i j l)
 
-  pub row-skips : (i j : ℕ) → j < k → ¬ LinkedIn links i j → row_of i j k (is_linked links) ≡ row_of i (j + 1) k (is_linked links)
-  row-skips i j l n = rw (ne_eqb (get_or links (i * 160 + j) 0) 1 n) at (row_step k (is_linked links) i j l)
+  pub row-skips : (i j : ℕ) → j < k → is_linked links i j ≡ false → row_of i j k (is_linked links) ≡ row_of i (j + 1) k (is_linked links)
+  row-skips i j l n = rw n at (row_step k (is_linked links) i j l)
 
   -- the rows together
   abbrev all_linked : List Pair
   all_linked = pairs_of k (is_linked links)
 
-  -- are the listing of what the bytes link
+  -- are the listing of what the flags link
   links-listed : Listing k (LinkedIn links) all_linked
-  links-listed = listing-iff (λ i j _ _. (eqb→eq (get_or links (i * 160 + j) 0) 1, λ e. rw e (eqb_refl 1))) (pairs_of-lists k (is_linked links))
+  links-listed = listing-iff (λ i j _ _. told (is_linked links i j)) (pairs_of-lists k (is_linked links))
 
   module _ {memory : GraphMemory} {cleared : List ℕ} (few : k ≤ 160) (room : ListRoom memory) (zeros : Wrote (replicate k 0) memory.counts cleared 0 k) where
     fits : k ≤ length memory.counts

@@ -13,11 +13,13 @@ use links::{Copies, Link};
 use sharing::Links;
 
 // Lists the pair of i and j as number m, and counts it at both; returns the next number.
+// `pairs`, `counts` and `firsts` stay three: C lends them so, and contracts join them by `slices`.
 fn add_pair(pairs: &mut [u16], counts: &mut [u16], m: usize, i: usize, j: usize) -> usize
     requires { PairRoom (slices pairs.old counts.old) m i j }
     ensures { PairAdded (slices pairs.old counts.old)
         (slices pairs.new counts.new) m i j result }
 {
+    // `as`: a position fits, as is proved, where a `try_from` would have an `Err` that never comes.
     pairs[2 * m] = i as u16;
     pairs[2 * m + 1] = j as u16;
     counts[i] += 1;
@@ -29,7 +31,7 @@ fn add_pair(pairs: &mut [u16], counts: &mut [u16], m: usize, i: usize, j: usize)
 fn list_row(
     pairs: &mut [u16],
     counts: &mut [u16],
-    links: &[u8; Links::SIZE],
+    links: &Links,
     n: usize,
     i: usize,
     m: usize,
@@ -39,9 +41,10 @@ fn list_row(
         (slices pairs.new counts.new) m result }
 {
     let mut next = m;
+    // The number j is what is listed.
     for j in i + 1..n {
-        let place = i * Table::MAX_TREES + j;
-        if links[place] == 1 {
+        let linked = links[i][j];
+        if linked {
             next = add_pair(pairs, counts, next, i, j);
         }
     }
@@ -50,18 +53,15 @@ fn list_row(
 
 // Lists the linked positions among n, in order of i, then j, as i and j from the start of `pairs` on, and the neighbour counts
 // from the start of `counts` on; returns the number of pairs.
-pub fn list_links(
-    pairs: &mut [u16],
-    counts: &mut [u16],
-    links: &[u8; Links::SIZE],
-    n: usize,
-) -> usize
+// n says how many rows of the square count: it is whole, in fixed memory.
+pub fn list_links(pairs: &mut [u16], counts: &mut [u16], links: &Links, n: usize) -> usize
     requires { (n ≤ max_trees) × ListRoom (slices pairs.old counts.old) }
     ensures { Graph n (LinkedIn links.now) (slices pairs.old counts.old)
         (slices pairs.new counts.new) result }
 {
-    lent::clear(counts, n);
+    lent::fill(counts, 0, n, 0);
     let mut m = 0;
+    // `list_row` takes the row's number.
     for i in 0..n {
         m = list_row(pairs, counts, links, n, i, m);
     }
@@ -83,12 +83,13 @@ pub fn list_pairs(
         (slices pairs.new counts.new) firsts.old firsts.new result }
 {
     held::note_firsts(firsts, table);
-    let mut links = [0u8; Links::SIZE];
+    let mut links = [[false; Table::MAX_TREES]; Table::MAX_TREES];
     links::link_positions(&mut links, &table, firsts, by, copies);
     list_links(pairs, counts, &links, table.len)
 }
 
 // The move that links trees of this kind.
+// No `From`: rooted trees are linked by interchanges too, so a kind alone does not say what links.
 fn move_of(kind: Kind) -> Link
     ensures { result ≡ move_of (kind_of kind) }
 {

@@ -10,14 +10,14 @@ use borrow.Author.Tests.{le-leb, lt-leb}
 use lib.Dec.{leb}
 use lib.ListN.{length, take, drop, get_or, set}
 use lib.Seq.{drop_at, length-take-le, sets, sets-eq, length-sets}
-use Rattle.meaning.specs.Tree.{Tree, fork, leaves, least, canon}
+use Rattle.meaning.specs.Tree.{Tree, leaf, fork, leaves, least, canon}
 use Rattle.meaning.proofs.Same.{◌≈◌, one, same, swap, ≈-leaves}
 use Rattle.meaning.proofs.Canon.{canon-≈}
 use Rattle.lent.specs.Runs.{Wrote}
 use Rattle.lent.proofs.Runs.{sets-append, set-sets, wrote_one}
-use Rattle.held.specs.Held.{nodes, pre, leasts, Holds, Noted, Marks}
+use Rattle.held.specs.Held.{nodes, byte, pre, leasts, Noted, Marks}
 use Rattle.held.proofs.Preorder.{length-preorder, own_is, own_in, first-stands, second-stands}
-use Rattle.held.proofs.Laws.{length-pre, twice, ForkAt, leafed, each-is, wrote-fork}
+use Rattle.held.proofs.Laws.{length-pre, twice, wrote-fork}
 
 -- the canonical order keeps the least label, the leaves and the nodes
 ≈-least : {t u : Tree} → t ≈ u → least t ≡ least u
@@ -52,10 +52,8 @@ length-leasts : (t : Tree) → length (leasts t) ≡ nodes t
 length-leasts = length-preorder least
 
 -- a leaf's label is noted
-pub noted-leaf : {xs low : List ℕ} {k : ℕ} {t : Tree} → Holds xs k t → get_or xs k 0 ≤ 64
-    → (u : Tree) → Holds xs k u → Noted u low (set low k (get_or xs k 0)) k (get_or xs k 0)
-noted-leaf {xs} {low} {k} h small =
-    each-is (λ (u : Tree). Noted u low (set low k (get_or xs k 0)) k (get_or xs k 0)) h (leafed h small) (record { own = refl; cells = refl })
+pub noted-leaf : {low : List ℕ} {k l : ℕ} {t : Tree} → t ≡ leaf l → Noted t low (set low k l) k l
+noted-leaf e = rw e (record { own = refl; cells = refl })
 
 -- both subtrees' least labels are noted, and then the fork's own
 noted-both : (a b : Tree) (k : ℕ) {low l₁ l₂ : List ℕ} {x y : ℕ} → Noted a low l₁ (k + 1) x → Noted b l₁ l₂ (k + 1 + nodes a) y → l₂ ≡ sets low (k + 1) (leasts a ++ leasts b)
@@ -74,11 +72,9 @@ noted-own a b {low} {k} both own =
           ∙ ap (λ (j : ℕ). sets (set low k (least (fork a b))) j (leasts a ++ leasts b)) (add-one k);
     }
 
-pub noted-fork : {xs low l₁ l₂ : List ℕ} {k x y w v : ℕ} {t : Tree} (f : ForkAt xs k t) → w ≡ nodes f.first
-    → Noted f.first low l₁ (k + 1) x → Noted f.second l₁ l₂ (k + 1 + w) y → v ≡ min x y → (u : Tree) → Holds xs k u → Noted u low (set l₂ k v) k v
-noted-fork {low} {l₂} {k} {v} f e p q m =
-    each-is (λ (u : Tree). Noted u low (set l₂ k v) k v) f.whole f.is
-    (noted-own f.first f.second (noted-both f.first f.second k p (rw e at q)) (m ∙ ap₂ min p.own q.own))
+pub noted-fork : {t a b : Tree} {k i j x y v : ℕ} {low l₁ l₂ : List ℕ} → t ≡ fork a b → i ≡ k + 1 → j ≡ k + 1 + nodes a
+    → Noted a low l₁ i x → Noted b l₁ l₂ j y → v ≡ min x y → Noted t low (set l₂ k v) k v
+noted-fork {a} {b} {k} e first second p q m = rw e (noted-own a b (noted-both a b k (rw first at p) (rw second at q)) (m ∙ ap₂ min p.own q.own))
 
 pub noted-length : {t : Tree} {low l₁ : List ℕ} {k x : ℕ} → Noted t low l₁ k x → length l₁ ≡ length low
 noted-length {t} {low} {k} p = ap length p.cells ∙ length-sets low k (leasts t)
@@ -98,39 +94,31 @@ mark-is {low} {k} {t} h = own_is least 0 low k t h.stands
 pub mark-in : {low : List ℕ} {k : ℕ} {t : Tree} → Marks low k t → k < length low
 mark-in {low} {k} {t} h = own_in least low k t h.stands
 
+-- and stand beside a fork's children
+module _ {low : List ℕ} {k : ℕ} {t a b : Tree} (e : t ≡ fork a b) (m : Marks low k t) where
+  marks-both : Marks low k (fork a b)
+  marks-both = rw e at m
+
+  pub marks-first : {i : ℕ} → i ≡ k + 1 → Marks low i a
+  marks-first here = rw here (record { stands = first-stands least low k a b marks-both.stands })
+
+  pub marks-second : {j : ℕ} → j ≡ k + 1 + nodes a → Marks low j b
+  marks-second here = rw here (record { stands = second-stands least low k a b marks-both.stands })
+
 -- a leaf is written as it is
-pub ordered-leaf : {xs out : List ℕ} {k at : ℕ} {t : Tree} → Holds xs k t → get_or xs k 0 ≤ 64
-    → (u : Tree) → Holds xs k u → Wrote (pre (canon u)) out (set out at (get_or xs k 0)) at (at + 1)
-ordered-leaf {xs} {out} {k} {at} h small =
-    each-is (λ (u : Tree). Wrote (pre (canon u)) out (set out at (get_or xs k 0)) at (at + 1)) h (leafed h small) (wrote_one out at (get_or xs k 0))
+pub ordered-leaf : {t : Tree} {l v at : ℕ} {out : List ℕ} → t ≡ leaf l → v ≡ byte t → Wrote (pre (canon t)) out (set out at v) at (at + 1)
+ordered-leaf {t} {l} {v} {at} {out} e own = rw (own ∙ ap byte e, e) (wrote_one out at l)
 
--- a fork's byte is written, and then its children x and y in the canonical order
-ordered : {xs : List ℕ} {k : ℕ} {t : Tree} (f : ForkAt xs k t) (x y : Tree) {out o₁ o₂ : List ℕ} {at r₁ r₂ : ℕ}
-    → canon (fork f.first f.second) ≡ fork (canon x) (canon y) → leaves x + leaves y ≡ leaves f.first + leaves f.second
-    → Wrote (pre (canon x)) (set out at (get_or xs k 0)) o₁ (at + 1) r₁ → Wrote (pre (canon y)) o₁ o₂ r₁ r₂ → (u : Tree) → Holds xs k u → Wrote (pre (canon u)) out o₂ at r₂
-ordered f x y {out} {o₂} {at} {r₂} order count p q =
-    each-is (λ (u : Tree). Wrote (pre (canon u)) out o₂ at r₂) f.whole f.is
-    (rw order (wrote-fork (canon x) (canon y) (omega (arith, leaves-canon x, leaves-canon y)) p q))
+-- a fork's byte is written, and then its children in the canonical order, which the noted labels tell
+module _ {t a b : Tree} {low : List ℕ} {i j v : ℕ} (e : t ≡ fork a b) (m : Marks low i a) (n : Marks low j b) (own : v ≡ byte t) {out o₁ o₂ : List ℕ} {at r₁ r₂ : ℕ} where
+  ordered : (x y : Tree) → canon (fork a b) ≡ fork (canon x) (canon y) → leaves x + leaves y ≡ leaves a + leaves b
+      → Wrote (pre (canon x)) (set out at v) o₁ (at + 1) r₁ → Wrote (pre (canon y)) o₁ o₂ r₁ r₂ → Wrote (pre (canon t)) out o₂ at r₂
+  ordered x y order count p q = rw (e, order) (wrote-fork (canon x) (canon y) (omega (arith, own ∙ ap byte e, leaves-canon x, leaves-canon y)) p q)
 
--- which order that is, the noted labels tell; w is the width of the first child
-module _ {xs low : List ℕ} {k : ℕ} {t : Tree} (f : ForkAt xs k t) (m : Marks low k t) where
-  marks-both : Marks low k (fork f.first f.second)
-  marks-both = rw f.is at m
+  pub ordered-keep : get_or low i 0 ≤ get_or low j 0
+      → Wrote (pre (canon a)) (set out at v) o₁ (at + 1) r₁ → Wrote (pre (canon b)) o₁ o₂ r₁ r₂ → Wrote (pre (canon t)) out o₂ at r₂
+  ordered-keep le = ordered a b (canon-keep a b (omega (arith, mark-is m, mark-is n))) refl
 
-  pub marks-first : Marks low (k + 1) f.first
-  marks-first = record { stands = first-stands least low k f.first f.second marks-both.stands }
-
-  module _ (w : ℕ) (e : w ≡ nodes f.first) where
-    pub marks-second : Marks low (k + 1 + w) f.second
-    marks-second = rw e (record { stands = second-stands least low k f.first f.second marks-both.stands })
-
-    module _ {out o₁ o₂ : List ℕ} {at r₁ r₂ : ℕ} where
-      pub ordered-keep : get_or low (k + 1) 0 ≤ get_or low (k + 1 + w) 0
-          → Wrote (pre (canon f.first)) (set out at (get_or xs k 0)) o₁ (at + 1) r₁ → Wrote (pre (canon f.second)) o₁ o₂ r₁ r₂
-          → (u : Tree) → Holds xs k u → Wrote (pre (canon u)) out o₂ at r₂
-      ordered-keep le = ordered f f.first f.second (canon-keep f.first f.second (omega (arith, mark-is marks-first, mark-is marks-second))) refl
-
-      pub ordered-swap : get_or low (k + 1 + w) 0 < get_or low (k + 1) 0
-          → Wrote (pre (canon f.second)) (set out at (get_or xs k 0)) o₁ (at + 1) r₁ → Wrote (pre (canon f.first)) o₁ o₂ r₁ r₂
-          → (u : Tree) → Holds xs k u → Wrote (pre (canon u)) out o₂ at r₂
-      ordered-swap lt = ordered f f.second f.first (canon-swap f.first f.second (omega (arith, mark-is marks-first, mark-is marks-second))) (omega arith)
+  pub ordered-swap : get_or low j 0 < get_or low i 0
+      → Wrote (pre (canon b)) (set out at v) o₁ (at + 1) r₁ → Wrote (pre (canon a)) o₁ o₂ r₁ r₂ → Wrote (pre (canon t)) out o₂ at r₂
+  ordered-swap lt = ordered b a (canon-swap a b (omega (arith, mark-is m, mark-is n))) (omega arith)

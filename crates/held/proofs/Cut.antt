@@ -1,6 +1,6 @@
 -- Cuts of a held tree: which subtree a cut's number names, what is left without it, and what `cut_node` meets on its walk.
 -- Assumes nothing.
-use mathlib.Core.Path.{◌≡◌, refl, ap, ap₂, subst, ◌∙◌}
+use mathlib.Core.Path.{◌≡◌, refl, sym, ap, ap₂, subst, ◌∙◌}
 use mathlib.Core.List.{List, [], ◌∷◌}
 use Prim.Native.Nat.{ℕ, zero, suc, ◌+◌, ◌-◌, ◌≤◌, ◌<◌}
 use native.Mathlib.Decide.{ℕ_discrete, dec_lt}
@@ -13,8 +13,11 @@ use Rattle.meaning.proofs.Labels.{some-leaves}
 use Rattle.meaning.proofs.Lists.{numbered}
 use Rattle.meaning.proofs.Moves.{IsCut, prune-in, cut-prune, cuts-length}
 use Rattle.lent.specs.Runs.{Wrote}
-use Rattle.held.specs.Held.{nodes, pre, Holds, hold, cut_in, HasCut, Cuts}
-use Rattle.held.proofs.Laws.{length-pre, twice, children, ForkAt, fork-nodes, forked-by, inside, each, second_at, holding, wrote-fork}
+use Rattle.held.specs.Held.{nodes, byte, pre, Holds, hold, cut_in, HasCut}
+use Rattle.held.specs.Node.{subtree, Below, cut_below}
+use Rattle.held.specs.declared.node.Node.{Node}
+use Rattle.held.proofs.Laws.{twice, children, inside, holding, wrote-fork}
+use Rattle.held.proofs.Subtree.{node-holds, at-node}
 
 -- the default of a list of cuts, which no cut's number reaches
 abbrev whole : Tree → Cut
@@ -111,102 +114,78 @@ cut_stands {xs} {k} {t = fork a b} h c lt = go (cut_stands {k = k + 1} {t = a} (
     go f g (below-first j l) = at (first-deeper a b j l) (f j l) (omega arith)
     go f g (below-second j l) = at (second-deeper a b j l) (g j l) (omega (arith, cuts-nodes a))
 
--- what the contract of `cut_node` tells on the walk; w is the width of the first child
-module _ {xs : List ℕ} {k len at c gone : ℕ} (h : Cuts xs k len at c gone) where
-  pub fork_at : ForkAt xs k h.tree
-  fork_at = forked-by h.holds (omega arith)
+-- a cut on the walk from the fork of a and b at k, whose children stand at p and q; c is the cut's node, and its number hangs on k
+module _ {t a b : Tree} {k p q c : ℕ} (e : t ≡ fork a b) (first-at : p ≡ k + 1) (second-at : q ≡ k + 1 + nodes a) (above : k < c) (inside : c < k + nodes t) where
+  abbrev cut : Cut
+  cut = cut_in t (c - (k + 1))
 
-  abbrev a : Tree
-  a = fork_at.first
+  cut-at : (i : ℕ) → c ≡ k + 1 + i → cut ≡ cut_in (fork a b) i
+  cut-at i here = ap₂ cut_in e (omega arith)
 
-  abbrev b : Tree
-  b = fork_at.second
+  pub rest-at-first : c ≡ p → cut.rest ≡ b
+  rest-at-first here = ap (λ (x : Cut). x.rest) (cut-at 0 (omega arith) ∙ first-cut a b)
 
-  pub gone-fits : gone < leaves h.tree
-  gone-fits =
-      let i : ℕ = c - (k + 1) in
-      omega (arith, cut-leaves h.tree i (omega (arith, cuts-nodes h.tree)), some-leaves (cut_in h.tree i).rest)
+  pub rest-at-second : c ≡ q → cut.rest ≡ a
+  rest-at-second here = ap (λ (x : Cut). x.rest) (cut-at (suc (length (cuts a))) (omega (arith, cuts-nodes a)) ∙ second-cut a b)
 
-  -- the cut, by its number in the fork
-  cut-at : (i : ℕ) → c ≡ k + 1 + i → cut_in h.tree (c - (k + 1)) ≡ cut_in (fork a b) i
-  cut-at i e =
-      let number : c - (k + 1) ≡ i = omega arith in
-      ap₂ cut_in fork_at.is number
+  -- it is below the first child, and there it has the number i
+  module _ (not-here : c ≡ p → ⊥) (before : c < q) where
+    abbrev i : ℕ
+    i = c - (p + 1)
 
-  -- what is left is written, and where the cut is x, that is what x leaves
-  abbrev pub Left : List ℕ → List ℕ → ℕ → Type 0
-  Left out out' r = (t : Tree) → Holds xs k t → Wrote (pre (cut_in t (c - (k + 1))).rest) out out' at r
+    first-has : i < length (cuts a)
+    first-has = omega (arith, cuts-nodes a)
 
-  left : {x : Cut} {out out' : List ℕ} {r : ℕ} → cut_in h.tree (c - (k + 1)) ≡ x → Wrote (pre x.rest) out out' at r → Left out out' r
-  left {out} {out'} {r} e p = each (λ (t : Tree). Wrote (pre (cut_in t (c - (k + 1))).rest) out out' at r) h.holds (rw e p)
+    in-first-child : cut ≡ deeper (λ r. fork r b) (cut_in a i)
+    in-first-child = cut-at (suc i) (omega arith) ∙ first-deeper a b i first-has
 
-  pub left-at-first : {out out' : List ℕ} {r : ℕ} → c ≡ k + 1 → Wrote (pre b) out out' at r → Left out out' r
-  left-at-first here = left (cut-at 0 (omega arith) ∙ first-cut a b)
+    pub inside-first : (p < c) × (c < p + nodes a)
+    inside-first = (omega arith, omega arith)
 
-  module _ (w : ℕ) (e : w ≡ nodes a) where
-    pub left-at-second : {out out' : List ℕ} {r : ℕ} → c ≡ k + 1 + w → Wrote (pre a) out out' at r → Left out out' r
-    left-at-second here = left (cut-at (suc (length (cuts a))) (omega (arith, cuts-nodes a)) ∙ second-cut a b)
+    pub rest-first-room : nodes (cut_in a i).rest < nodes a
+    rest-first-room = nodes-rest a i first-has
 
-    -- the cut is below the first child, and there it has the number i
-    module _ (not-here : c ≡ k + 1 → ⊥) (before : c < k + 1 + w) where
-      abbrev i : ℕ
-      i = c - (k + 1 + 1)
+    pub left-in-first : {v gone : ℕ} {out o₁ o₂ : List ℕ} {at r₁ r₂ : ℕ} → v ≡ byte t - gone → gone ≡ leaves cut.pruned
+        → Wrote (pre (cut_in a i).rest) (set out at v) o₁ (at + 1) r₁ → Wrote (pre b) o₁ o₂ r₁ r₂ → Wrote (pre cut.rest) out o₂ at r₂
+    left-in-first own gone-is w x =
+        rw in-first-child
+        (wrote-fork (cut_in a i).rest b (omega (arith, own, ap byte e, gone-is, ap (λ (x : Cut). leaves x.pruned) in-first-child, cut-leaves a i first-has)) w x)
 
-      first-has : i < length (cuts a)
-      first-has = omega (arith, cuts-nodes a)
+  -- it is below the second child, and there it has the number j
+  module _ (not-here : c ≡ q → ⊥) (behind : q ≤ c) where
+    abbrev j : ℕ
+    j = c - (q + 1)
 
-      in-first-child : cut_in h.tree (c - (k + 1)) ≡ deeper (λ r. fork r b) (cut_in a i)
-      in-first-child = cut-at (suc i) (omega arith) ∙ first-deeper a b i first-has
+    second-has : j < length (cuts b)
+    second-has = omega (arith, cuts-nodes b, ap nodes e)
 
-      gone-first : gone ≡ leaves (cut_in a i).pruned
-      gone-first = h.gone_leaves ∙ ap (λ (x : Cut). leaves x.pruned) in-first-child
+    in-second-child : cut ≡ deeper (fork a) (cut_in b j)
+    in-second-child = cut-at (suc (suc (length (cuts a) + j))) (omega (arith, cuts-nodes a)) ∙ second-deeper a b j second-has
 
-      pub cuts_first : (len' : ℕ) → len' ≡ len → Cuts xs (k + 1) len' (at + 1) c gone
-      cuts_first len' same =
-          record {
-            tree = a;
-            holds = fork_at.holds-first;
-            room = omega (arith, fork-nodes fork_at);
-            above = omega arith;
-            inside = omega arith;
-            gone_leaves = gone-first;
-          }
+    pub inside-second : (q < c) × (c < q + nodes b)
+    inside-second = (omega arith, omega (arith, ap nodes e))
 
-      pub room-first : at + 1 + length (pre (cut_in a i).rest) + nodes b ≤ len
-      room-first = omega (arith, fork-nodes fork_at, length-pre (cut_in a i).rest, nodes-rest a i first-has)
+    pub left-in-second : {v gone : ℕ} {out o₁ o₂ : List ℕ} {at r₁ r₂ : ℕ} → v ≡ byte t - gone → gone ≡ leaves cut.pruned
+        → Wrote (pre a) (set out at v) o₁ (at + 1) r₁ → Wrote (pre (cut_in b j).rest) o₁ o₂ r₁ r₂ → Wrote (pre cut.rest) out o₂ at r₂
+    left-in-second own gone-is w x =
+        rw in-second-child
+        (wrote-fork a (cut_in b j).rest (omega (arith, own, ap byte e, gone-is, ap (λ (x : Cut). leaves x.pruned) in-second-child, cut-leaves b j second-has)) w x)
 
-      pub left-in-first : {out o₁ o₂ : List ℕ} {r₁ r₂ : ℕ}
-          → Wrote (pre (cut_in a i).rest) (set out at (get_or xs k 0 - gone)) o₁ (at + 1) r₁ → Wrote (pre b) o₁ o₂ r₁ r₂ → Left out o₂ r₂
-      left-in-first p q = left in-first-child (wrote-fork (cut_in a i).rest b (omega (arith, fork_at.byte, cut-leaves a i first-has, gone-first)) p q)
+-- a node below another is the one that its cut takes away, and leaves a leaf or more
+module _ {x y : Node} (below : Below x y) where
+  abbrev number : ℕ
+  number = y.at - (x.at + 1)
 
-    -- it is below the second child, and there it has the number j
-    module _ (not-here : c ≡ k + 1 + w → ⊥) (behind : k + 1 + w ≤ c) where
-      abbrev j : ℕ
-      j = c - (k + 1 + w + 1)
+  has-number : number < length (cuts (subtree x))
+  has-number = omega (arith, below.behind, below.inside, cuts-nodes (subtree x))
 
-      second-has : j < length (cuts b)
-      second-has = omega (arith, cuts-nodes b, fork-nodes fork_at)
+  pub below-is : subtree y ≡ (cut_below x y).pruned
+  below-is =
+      let at : x.at + 1 + number ≡ y.at = omega (arith, below.behind) in
+      at-node y (below.same, refl) (subst (λ (k : ℕ). Holds x.tree.now k (cut_below x y).pruned) at (cut_stands (node-holds x) number has-number))
 
-      in-second-child : cut_in h.tree (c - (k + 1)) ≡ deeper (fork a) (cut_in b j)
-      in-second-child = cut-at (suc (suc (length (cuts a) + j))) (omega (arith, cuts-nodes a)) ∙ second-deeper a b j second-has
-
-      gone-second : gone ≡ leaves (cut_in b j).pruned
-      gone-second = h.gone_leaves ∙ ap (λ (x : Cut). leaves x.pruned) in-second-child
-
-      pub cuts-second : (len' at' : ℕ) → len' ≡ len → at' ≡ at + 1 + nodes a → Cuts xs (k + 1 + w) len' at' c gone
-      cuts-second len' at' same next =
-          record {
-            tree = b;
-            holds = second_at fork_at w e;
-            room = omega (arith, fork-nodes fork_at);
-            above = omega arith;
-            inside = omega (arith, fork-nodes fork_at);
-            gone_leaves = gone-second;
-          }
-
-      pub left-in-second : {out o₁ o₂ : List ℕ} {r₁ r₂ : ℕ}
-          → Wrote (pre a) (set out at (get_or xs k 0 - gone)) o₁ (at + 1) r₁ → Wrote (pre (cut_in b j).rest) o₁ o₂ r₁ r₂ → Left out o₂ r₂
-      left-in-second p q = left in-second-child (wrote-fork a (cut_in b j).rest (omega (arith, fork_at.byte, cut-leaves b j second-has, gone-second)) p q)
+  pub below-fewer : leaves (subtree y) < leaves (subtree x)
+  below-fewer = omega (arith, ap leaves below-is, cut-leaves (subtree x) number has-number, some-leaves (cut_below x y).rest)
 
 -- a whole array, and its cut number c
 module _ {xs : List ℕ} {c : ℕ} (h : HasCut xs c) where
@@ -217,25 +196,20 @@ module _ {xs : List ℕ} {c : ℕ} (h : HasCut xs c) where
   pub cut_holds : Holds xs (c + 1) (cut_in h.tree c).pruned
   cut_holds = subst (λ (k : ℕ). Holds xs k (cut_in h.tree c).pruned) (omega arith) (cut_stands h.holds c h.is_cut)
 
-  module _ (len : length xs ≡ 127) where
-    pub cuts-whole : {gone : ℕ} → gone ≡ leaves (cut_in h.tree c).pruned → Cuts xs 0 127 0 (c + 1) gone
-    cuts-whole e =
-        record {
-          tree = h.tree;
-          holds = h.holds;
-          room = omega (arith, inside h.holds);
-          above = omega arith;
-          inside = omega (arith, cuts-nodes h.tree);
-          gone_leaves = rw node-is e;
-        }
+  -- its nodes' cut
+  pub cut-below : (root y : Node) → (root.tree.now ≡ xs) × (root.at ≡ 0) → (y.tree.now ≡ xs) × (y.at ≡ c + 1) → Below root y
+  cut-below root y r e = record { same = e.0 ∙ sym r.0; behind = omega (arith, r.1, e.1); inside = omega (arith, r.1, e.1, ap nodes (at-node root r h.holds), cuts-nodes h.tree, h.is_cut) }
 
+  module _ (len : length xs ≡ 127) where
     pub rest-fits : nodes (cut_in h.tree c).rest ≤ 127
     rest-fits = omega (arith, nodes-rest h.tree c h.is_cut, inside h.holds)
 
-    -- what `cut_node` has written of it is held
-    pub rest-holds : {out : List ℕ} {r : ℕ} → ((t : Tree) → Holds xs 0 t → Wrote (pre (cut_in t (c + 1 - (0 + 1))).rest) (replicate 127 0) out 0 r)
-        → (t : Tree) → Holds xs 0 t → Holds out 0 (cut_in t c).rest
-    rest-holds {out} wrote =
+    -- what is written of it is held
+    pub rest-holds : (root y : Node) → (root.tree.now ≡ xs) × (root.at ≡ 0) → y.at ≡ c + 1 → {out : List ℕ} {r : ℕ}
+        → Wrote (pre (cut_below root y).rest) (replicate 127 0) out 0 r → Holds out 0 (cut_in h.tree c).rest
+    rest-holds root y placed at {out} wrote =
         let rest : Tree = (cut_in h.tree c).rest in
-        let e : out ≡ hold rest = rw node-is at (wrote h.tree h.holds).cells in
-        each (λ (t : Tree). Holds out 0 (cut_in t c).rest) h.holds (rw e (holding rest (small-rest h.tree c h.is_cut h.holds.small) rest-fits))
+        let number : y.at - (root.at + 1) ≡ c = omega (arith, placed.1, at) in
+        let same : cut_below root y ≡ cut_in h.tree c = ap₂ cut_in (at-node root placed h.holds) number in
+        let e : out ≡ hold rest = wrote.cells ∙ ap (λ (x : Cut). hold x.rest) same in
+        rw e (holding rest (small-rest h.tree c h.is_cut h.holds.small) rest-fits)

@@ -110,9 +110,6 @@ unique {t} {u} g h = (parted t u g.small h.small g.stands.0 h.stands.0 (sym g.st
 pub each : {xs : List ℕ} {k : ℕ} {t : Tree} (P : Tree → Type 0) → Holds xs k t → P t → (u : Tree) → Holds xs k u → P u
 each P g p u h = subst P (unique g h) p
 
-pub each-is : {xs : List ℕ} {k : ℕ} {t u : Tree} (P : Tree → Type 0) → Holds xs k t → t ≡ u → P u → (v : Tree) → Holds xs k v → P v
-each-is P h e p = each P h (subst P (sym e) p)
-
 pub taken_is : {xs : List ℕ} {k : ℕ} {t : Tree} → Holds xs k t → take (nodes t) (drop k xs) ≡ pre t
 taken_is {t} h = ap₂ (λ (j : ℕ) (l : List ℕ). take j l) (sym (length-pre t)) h.stands.1 ∙ take-append_seam (pre t) h.stands.0
 

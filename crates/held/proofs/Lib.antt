@@ -7,3 +7,4 @@ pub mod Laws
 pub mod Preorder
 pub mod Turning
 pub mod Hanging
+pub mod Subtree

@@ -1,6 +1,6 @@
 -- The leftmost path of a held tree: where its nodes stand, what is above each turned round, and the tree hung at its end.
 -- Assumes nothing.
-use mathlib.Core.Path.{◌≡◌, refl, sym, ap, subst}
+use mathlib.Core.Path.{◌≡◌, ◌∙◌, refl, sym, ap, subst}
 use mathlib.Core.Logic.{◌⊎◌, inl, inr}
 use mathlib.Core.List.{List}
 use Prim.Native.Nat.{ℕ, ◌+◌, ◌-◌, ◌≤◌, ◌<◌}
@@ -8,9 +8,12 @@ use native.Mathlib.Omega.{arith}
 use lib.ListN.{get_or}
 use Rattle.meaning.specs.Tree.{Tree, fork, leaves}
 use Rattle.meaning.specs.Unrooted.{spine, turn_round}
-use Rattle.held.specs.Held.{nodes, Holds}
+use Rattle.held.specs.Held.{nodes, byte, Holds, Held}
+use Rattle.held.specs.Node.{subtree}
 use Rattle.held.specs.Turning.{Turning, start, deeper}
+use Rattle.held.specs.declared.node.Node.{Node}
 use Rattle.held.proofs.Laws.{twice, some-nodes, children, forked-by}
+use Rattle.held.proofs.Subtree.{node-holds, node-byte, at-node}
 
 module _ {t : Tree} where
   pub turning-some : {k : ℕ} {s up : Tree} → Turning t k s up → 1 ≤ k
@@ -73,13 +76,57 @@ module _ {t : Tree} where
       pub record Further : Type 0 where
         pub tree : Tree
         pub is : up ≡ fork tree a.sibling
-        pub way : Turning t (k - 1 + 1) (fork s a.sibling) tree
+        pub way : Turning t k (fork s a.sibling) tree
 
       pub further-of : ¬ (k ≡ 0) → Further
       further-of n = by a.above
         where
           by : ((k ≡ 0) × (up ≡ a.sibling)) ⊎ ((further : Tree) × (up ≡ fork further a.sibling) × Turning t k (fork s a.sibling) further) → Further
           by (inl e) = absurd (n e.0)
-          by (inr e) =
-              let same : k ≡ k - 1 + 1 = omega (arith, turning-some e.2) in
-              record { tree = e.0; is = e.1; way = subst (λ (i : ℕ). Turning t i (fork s a.sibling) e.0) same e.2 }
+          by (inr e) = record { tree = e.0; is = e.1; way = e.2 }
+
+-- the same place of the same tree
+pub way-at : {t s u up : Tree} {k j : ℕ} → j ≡ k → u ≡ s → Turning t k s up → Turning t j u up
+way-at e f w = rw (e, f) w
+
+-- what is above a node of the path from the root
+module _ (root y : Node) (start : root.at ≡ 0) {up : Tree} (way : Turning (subtree root) y.at (subtree y) up) where
+  pub root-holds : Holds root.tree.now 0 (subtree root)
+  root-holds = subst (λ (k : ℕ). Holds root.tree.now k (subtree root)) start (node-holds root)
+
+  abbrev pub above-node : Above root-holds (y.at - 1) (subtree y) up
+  above-node = above_of root-holds (y.at - 1) way (omega (arith, turning-some way))
+
+  -- the root's byte has the leaves of both
+  pub root-own : byte (subtree root) ≡ 64 + (leaves (subtree y) + leaves up)
+  root-own = sym (node-byte root) ∙ ap (λ (k : ℕ). get_or root.tree.now k 0) start ∙ root-byte root-holds way
+
+  -- its sibling stands behind it
+  sibling-holds : {w : ℕ} → w ≡ nodes (subtree y) → Holds root.tree.now (y.at + w) above-node.sibling
+  sibling-holds {w} e =
+      let here : y.at - 1 + 1 + nodes (subtree y) ≡ y.at + w = omega (arith, turning-some way) in
+      subst (λ (k : ℕ). Holds root.tree.now k above-node.sibling) here above-node.holds-sibling
+
+  pub sibling-held : {xs : List ℕ} {w : ℕ} → xs ≡ root.tree.now → w ≡ nodes (subtree y) → Held xs (y.at + w)
+  sibling-held {xs} {w} same e = subst (λ (ys : List ℕ). Held ys (y.at + w)) (sym same) (record { tree = above-node.sibling; holds = sibling-holds e })
+
+  pub sibling-is : (x : Node) {w : ℕ} → w ≡ nodes (subtree y) → x.tree.now ≡ root.tree.now → x.at ≡ y.at + w → subtree x ≡ above-node.sibling
+  sibling-is x e same at = at-node x (same, at) (sibling-holds e)
+
+  -- it is what is above a child of the root
+  pub root-above : y.at ≡ 1 → up ≡ above-node.sibling
+  root-above e = at-root root-holds above-node (omega arith)
+
+  -- below another fork there is more
+  module _ (deep : ¬ (y.at ≡ 1)) where
+    pub further : Further root-holds above-node
+    further = further-of root-holds above-node (λ e. deep (omega (arith, turning-some way)))
+
+    parent-holds : Holds root.tree.now (y.at - 1) (fork (subtree y) above-node.sibling)
+    parent-holds = turning-holds root-holds further.way
+
+    pub parent-held : {xs : List ℕ} → xs ≡ root.tree.now → Held xs (y.at - 1)
+    parent-held {xs} same = subst (λ (ys : List ℕ). Held ys (y.at - 1)) (sym same) (record { tree = fork (subtree y) above-node.sibling; holds = parent-holds })
+
+    pub parent-way : (x : Node) → x.tree.now ≡ root.tree.now → x.at ≡ y.at - 1 → Turning (subtree root) x.at (subtree x) further.tree
+    parent-way x same at = way-at at (at-node x (same, at) parent-holds) further.way

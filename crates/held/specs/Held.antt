@@ -1,6 +1,6 @@
 -- How a tree is held: its nodes in preorder, one byte each; and what the walks down a held tree ask and leave.
 -- Assumes nothing.
-use Rattle.std.specs.Prelude.{◌≡◌, List, [], ◌∷◌, ◌++◌, ℕ, suc, ◌+◌, ◌-◌, ◌≤◌, ◌<◌, length, get_or, replicate}
+use Rattle.std.specs.Prelude.{◌≡◌, List, [], ◌∷◌, ◌++◌, ℕ, suc, ◌+◌, ◌≤◌, ◌<◌, length, get_or, replicate}
 use Rattle.std.proofs.lemmas.List.Edits.{sets}
 use Rattle.meaning.specs.Limits.{max_label, max_nodes}
 use Rattle.meaning.specs.Tree.{Tree, leaf, fork, leaves, Small, least}
@@ -59,13 +59,6 @@ pub record Noted (t : Tree) (low low' : List ℕ) (k r : ℕ) : Type 0 where
 pub record Marks (low : List ℕ) (k : ℕ) (t : Tree) : Type 0 where
   pub stands : Stands low k (leasts t)
 
--- as Room, and low has each node's least label beside it
-pub record Marked (measure : Tree → ℕ) (xs low : List ℕ) (k len : ℕ) : Type 0 where
-  pub tree : Tree
-  pub holds : Holds xs k tree
-  pub marks : Marks low k tree
-  pub room : measure tree ≤ len
-
 -- cut number c of t as it is written (there is one where c is below the length of the list)
 abbrev pub cut_in : Tree → ℕ → Cut
 cut_in t c = get_or (cuts t) c (record { rest = t; pruned = t })
@@ -75,12 +68,3 @@ pub record HasCut (xs : List ℕ) (c : ℕ) : Type 0 where
   pub tree : Tree
   pub holds : Holds xs 0 tree
   pub is_cut : c < length (cuts tree)
-
--- xs holds a tree from the node k on, the node c is below k and has `gone` leaves, and from `at` on there is room for the tree
-pub record Cuts (xs : List ℕ) (k len at c gone : ℕ) : Type 0 where
-  pub tree : Tree
-  pub holds : Holds xs k tree
-  pub room : at + nodes tree ≤ len
-  pub above : k < c
-  pub inside : c < k + nodes tree
-  pub gone_leaves : gone ≡ leaves (cut_in tree (c - (k + 1))).pruned

@@ -1,67 +1,64 @@
 // An unrooted tree, given by a rooting in canonical order, is hung at its smallest label. That is the leftmost leaf, and the
 // leftmost path is the first bytes, each fork before its first child: the path is turned round.
-ghost use Rattle.std.specs.Prelude.{◌+◌, ◌<◌, length, get_or};
-ghost use Rattle.meaning.specs.Limits.{max_label};
 ghost use Rattle.meaning.specs.Tree.{Tree as Topology};
 ghost use Rattle.meaning.specs.Kind.{unrooted};
 ghost use Rattle.meaning.specs.Unrooted.{hang};
+ghost use Rattle.std.specs.Prelude.{length};
 ghost use Rattle.lent.specs.Runs.{Wrote};
-ghost use Rattle.held.specs.Held.{Holds, Held, pre};
+ghost use Rattle.held.specs.Held.{pre};
+ghost use Rattle.held.specs.Node.{subtree};
 ghost use Rattle.held.specs.Kept.{Keeps, Kept, KeepsKind};
 ghost use Rattle.held.specs.Turning.{Turning, Leftmost, TurnRoom};
 
-use super::{Kind, Tree, copy_node, leaves, width};
+use super::{Kind, Node, Shape, Tree, copy_node};
 
-// The index of the leftmost leaf below the root, which is a fork.
-fn leftmost(n: &[u8]) -> usize
-    requires { Held n.now 0 × (max_label < get_or n.now 0 0) }
-    ensures { (t : Topology) → Holds n.now 0 t → Leftmost n.now t result }
+// The leftmost leaf of the subtree.
+fn leftmost(top: Node) -> Node
+    ensures { Leftmost top.entry result }
 {
-    let mut k = 1;
-    while n[k] > Tree::FORK {
-        k += 1;
+    let mut node = top;
+    while let Shape::Fork(first, _) = node.shape() {
+        node = first;
     }
-    k
+    node
 }
 
-// Writes what is above the node k + 1 of the leftmost path, turned round, into `out` from `at` on; returns the place behind it.
+// Writes what is above the node of the leftmost path, turned round, into `out` from `at` on; returns the place behind it.
 // That has all leaves but those of the node: the root's byte less these is its fork's.
-fn write_above(out: &mut [u8], at: usize, n: &[u8], k: usize) -> usize
-    requires { TurnRoom n.now (length out.old) at k }
-    ensures { (t s up : Topology) → Holds n.now 0 t → Turning t (k + 1) s up
+fn write_above(out: &mut [u8], at: usize, root: Node, node: Node) -> usize
+    requires { TurnRoom root node (length out.old) at }
+    ensures { (up : Topology) → Turning (subtree root.entry) node.entry.at (subtree node.entry) up
         → Wrote (pre up) out.old out.new at result }
 {
-    let first = k + 1;
-    let second = first + width(n, first);
-    if k == 0 {
-        return copy_node(out, at, n, second);
+    let sibling = Node::new(node.tree, node.at + node.width());
+    if node.at == 1 {
+        return copy_node(out, at, sibling);
     }
-    out[at] = n[0] - leaves(n, first);
-    let next = write_above(out, at + 1, n, k - 1);
-    copy_node(out, next, n, second)
+    out[at] = root.byte() - node.leaves();
+    let parent = Node::new(node.tree, node.at - 1);
+    let next = write_above(out, at + 1, root, parent);
+    copy_node(out, next, sibling)
 }
 
-// The unrooted tree of which the tree is a rooting.
+/// The unrooted tree of which the tree is a rooting.
 pub fn hung(tree: Tree) -> Tree
     requires { Kept tree }
     ensures { (t : Topology) → Keeps tree t → KeepsKind result (record { kind = unrooted; tree = hang t }) }
 {
-    let n = tree.node;
-    if n[0] <= Tree::FORK {
+    let root = Node::new(&tree.node, 0);
+    let Shape::Fork(first, _) = root.shape() else {
         return Tree {
-            node: n,
             kind: Kind::Unrooted,
+            ..tree
         };
-    }
-    let least = leftmost(&n);
+    };
+    let least = leftmost(first);
     let mut out = [0u8; Tree::MAX_NODES];
-    out[0] = n[0];
-    out[1] = n[least];
-    write_above(&mut out, 2, &n, least - 1);
-    let ordered = Tree::canonical(&out);
-    let node = ordered.node;
+    out[0] = root.byte();
+    out[1] = tree.node[least.at];
+    write_above(&mut out, 2, root, least);
     Tree {
-        node,
         kind: Kind::Unrooted,
+        ..Tree::canonical(&out)
     }
 }

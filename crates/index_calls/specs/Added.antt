@@ -1,23 +1,21 @@
 -- The answers of adding, and what a tree that was read becomes beside the held ones.
 -- Assumes nothing.
-use Rattle.std.specs.Prelude.{Bool, true, false, List, ℕ}
+use Rattle.std.specs.Prelude.{Bool, true, false, List, ℕ, Result}
 use Rattle.meaning.specs.Kind.{Kinded}
 use Rattle.meaning.specs.Copies.{first_passing}
 use Rattle.meaning.specs.Reading.{Read}
 use Rattle.meaning.specs.Answer.{Answer, accepted, Outcome, onward, conclude}
 use Rattle.holdings.specs.Slots.{Slot, free, held}
 use Rattle.holdings.specs.IndexCalls.{joined, add_to}
-use Rattle.tokens.specs.Paper.{refusal_of}
-use Rattle.index_calls.specs.declared.AddAnswer.{AddAnswer}
-use Rattle.index_calls.specs.declared.AddAnswer.TheVariants.{Number, Refused}
+use Rattle.tokens.specs.Paper.{answer_of}
+use Rattle.tokens.specs.declared.Refusal.{Refusal}
 
 -- the tree's number
-abbrev pub add_answer : AddAnswer → Answer ℕ
-add_answer (Number n) = accepted n
-add_answer (Refused x) = refusal_of x
+abbrev pub add_answer : Result ℕ Refusal → Answer ℕ
+add_answer r = answer_of (λ n. n) r
 
 -- with the lent memory at exit
-abbrev pub add_outcome : AddAnswer → List ℕ → Outcome ℕ (List ℕ)
+abbrev pub add_outcome : Result ℕ Refusal → List ℕ → Outcome ℕ (List ℕ)
 add_outcome r memory = record { answer = add_answer r; memory = memory }
 
 -- a number has a tree

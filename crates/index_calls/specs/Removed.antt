@@ -1,13 +1,12 @@
 -- The answers of removing, and which line stands against a number.
 -- Assumes nothing.
-use Rattle.std.specs.Prelude.{◌≡◌, Bool, true, false, List, ℕ}
-use Rattle.meaning.specs.Answer.{Answer, accepted, Outcome}
+use Rattle.std.specs.Prelude.{◌≡◌, Bool, true, false, List, ℕ, Result}
+use Rattle.meaning.specs.Answer.{Answer, Outcome}
 use Rattle.meaning.specs.Tree.{Tree}
 use Rattle.holdings.specs.Slots.{free, held, slot_at}
 use Rattle.holdings.specs.Memory.{Valid}
-use Rattle.tokens.specs.Paper.{refusal_of}
-use Rattle.index_calls.specs.declared.RemoveAnswer.{RemoveAnswer}
-use Rattle.index_calls.specs.declared.RemoveAnswer.TheVariants.{Removed, Refused}
+use Rattle.tokens.specs.Paper.{answer_of}
+use Rattle.tokens.specs.declared.Refusal.{Refusal}
 
 -- the line by which nothing can be done with the tree of x, in the order of the lines; 0 where it can
 pub data Barred (memory : List ℕ) (x : ℕ) : Bool → ℕ → Type 0 where
@@ -17,10 +16,9 @@ pub data Barred (memory : List ℕ) (x : ℕ) : Bool → ℕ → Type 0 where
   fine : (v : Valid memory) (t : Tree) → slot_at v.slots x ≡ held t → Barred memory x true 0
 
 -- it is done, and there is no more to say
-abbrev pub remove_answer : RemoveAnswer → Answer (Unit {0})
-remove_answer Removed = accepted tt
-remove_answer (Refused x) = refusal_of x
+abbrev pub remove_answer : Result (Unit {0}) Refusal → Answer (Unit {0})
+remove_answer r = answer_of (λ u. u) r
 
 -- with the lent memory at exit
-abbrev pub remove_outcome : RemoveAnswer → List ℕ → Outcome (Unit {0}) (List ℕ)
+abbrev pub remove_outcome : Result (Unit {0}) Refusal → List ℕ → Outcome (Unit {0}) (List ℕ)
 remove_outcome r memory = record { answer = remove_answer r; memory = memory }

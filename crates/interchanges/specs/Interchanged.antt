@@ -1,18 +1,7 @@
 -- Two trees that differ at their roots by one interchange, part by part as they are held.
 -- Assumes nothing.
-use Rattle.std.specs.Prelude.{◌≡◌}
 use Rattle.meaning.specs.Tree.{Tree}
 use Rattle.meaning.specs.Interchange.{Forks}
-
--- s and t are u and v
-pub record Both (s t u v : Tree) : Type 0 where
-  pub one : s ≡ u
-  pub two : t ≡ v
-
--- the node n, with the sibling b and the aunt z, hangs beside the aunt under the parent p, and its sibling stands alone as c
-pub record Hangs (n b z p c : Tree) : Type 0 where
-  pub alone : b ≡ c
-  pub beside : Forks n z p
 
 -- a child of the parent p, whose sibling is the aunt z, hangs beside the aunt under the parent q, and its sibling stands alone as s
 pub record Regrafted (p z q s : Tree) : Type 0 where

@@ -7,10 +7,12 @@ use native.Mathlib.Nat.{add-zero, zero-add}
 use native.Mathlib.Omega.{arith}
 use native.Mathlib.Numerals.{add-one}
 use lib.ListN.{length, take, drop, get_or, set, replicate, replicate-append-replicate, length-append, length-drop, length-set, get_or-append}
-use lib.Seq.{set_comm, take-suc, drop-drop, drop-append-add, drop-append_seam, get_or-drop, get_or-append-add, get_or-set_same, get_or-set_other, take_at, drop_at, sets, sets-eq, length-sets}
+use lib.Seq.{set_comm, take-suc, get_or-take, length-take-le, drop-drop, drop-append-add, drop-append_seam, get_or-drop, get_or-append-add, get_or-set_same, get_or-set_other, take_at, drop_at, sets, sets-eq, length-sets}
 use Rattle.meaning.specs.Lists.{positions}
 use Rattle.meaning.proofs.Sums.{map-suc}
-use Rattle.lent.specs.Runs.{Stands, Wrote}
+use borrow.Rule.Slice.PartMut.{put_mid}
+use Rattle.std.proofs.lemmas.Grind.{same_number_lists}
+use Rattle.lent.specs.Runs.{Stands, Wrote, SameRun}
 
 module _ {A : Type 0} where
   -- a list that from k on begins with y
@@ -141,6 +143,26 @@ module _ {A : Type 0} where
   pub wrote-same : (v : A) {out out' : List A} {at r : ℕ} (n : ℕ) → Wrote (replicate n v) out out' at r → Wrote (replicate (n + 1) v) out (set out' r v) at (r + 1)
   wrote-same v {out} {out'} {at} {r} n w =
       subst (λ (ys : List A). Wrote ys out (set out' r v) at (r + 1)) (replicate-append-replicate n 1 v) (wrote-more w (wrote_one out' r v))
+
+  -- a part of a slice that is written as a whole is a run of stores
+  pub part-written : (out : List A) (at k : ℕ) (ys : List A) → at + k ≤ length out → length ys ≡ k → put_mid at k out ys ≡ sets out at ys
+  part-written out at k ys fits e =
+      let behind : drop k (drop at out) ≡ drop (at + length ys) out = drop-drop k at out ∙ ap (λ (n : ℕ). drop n out) (omega arith) in
+      ap (λ (zs : List A). take at out ++ (ys ++ zs)) behind ∙ sym (sets-eq ys out at (omega arith) ∙ append_assoc (take at out) ys (drop (at + length ys) out))
+
+-- two parts are equal exactly when the runs are the same
+part-at : (xs : List ℕ) (i n k : ℕ) → k < n → get_or (take n (drop i xs)) k 0 ≡ get_or xs (i + k) 0
+part-at xs i n k h = get_or-take n (drop i xs) k 0 h ∙ get_or-drop i xs k 0
+
+module _ (xs : List ℕ) (i : ℕ) (ys : List ℕ) (j n : ℕ) where
+  pub same-parts : take n (drop i xs) ≡ take n (drop j ys) → SameRun xs i ys j n
+  same-parts e k h = sym (part-at xs i n k h) ∙ ap (λ (l : List ℕ). get_or l k 0) e ∙ part-at ys j n k h
+
+  pub parts-same : i + n ≤ length xs → j + n ≤ length ys → SameRun xs i ys j n → take n (drop i xs) ≡ take n (drop j ys)
+  parts-same f g s =
+      let m : length (take n (drop i xs)) ≡ n = omega (arith, length-take-le n (drop i xs), length-drop i xs) in
+      let m' : length (take n (drop j ys)) ≡ n = omega (arith, length-take-le n (drop j ys), length-drop j ys) in
+      same_number_lists _ _ (omega arith) (λ k h. let h' : k < n = omega arith in part-at xs i n k h' ∙ s k h' ∙ sym (part-at ys j n k h'))
 
 -- what f makes of one position more
 pub wrote-next : (f : ℕ → ℕ) {out out' : List ℕ} (i : ℕ) → Wrote (map f (positions i)) out out' 0 i → Wrote (map f (positions (i + 1))) out (set out' i (f i)) 0 (i + 1)

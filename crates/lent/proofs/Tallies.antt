@@ -1,4 +1,4 @@
--- Counting how often each number occurs: nothing is counted, one number more is, and no place grows by more than there are numbers; counting from zero on.
+-- Counting how often each number occurs: one number more is counted, and no place grows by more than there are numbers; counting from zero on.
 -- Assumes nothing.
 use mathlib.Core.Path.{◌≡◌, refl, ap}
 use mathlib.Core.Bool.{Bool, true, false}
@@ -13,9 +13,6 @@ use Rattle.meaning.specs.Lists.{count, bit, more}
 use Rattle.meaning.proofs.Sums.{count-append}
 use Rattle.meaning.proofs.Counts.{more-at}
 use Rattle.lent.specs.Tallies.{TallyRoom, Tallied}
-
-pub tallied-none : {tallies : List ℕ} → Tallied [] tallies tallies
-tallied-none = record { long = refl; each = λ x. omega arith }
 
 -- no more members pass a test than there are
 bit_le : (b : Bool) → bit b ≤ 1

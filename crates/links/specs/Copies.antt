@@ -1,15 +1,15 @@
 -- Copies merged or kept apart: what linking positions asks of the first positions, and what it leaves.
 -- Assumes nothing.
-use Rattle.std.specs.Prelude.{◌≡◌, ◌⊎◌, cond, List, ℕ, min, max, ◌+◌, ◌*◌, ◌≤◌, ◌<◌, eqb, length, get_or}
+use Rattle.std.specs.Prelude.{◌⊎◌, cond, Bool, false, List, ℕ, min, max, ◌≤◌, ◌<◌, eqb, length, get_or}
 use Rattle.meaning.specs.Limits.{max_trees}
+use Rattle.meaning.specs.Tree.{Tree as Topology}
 use Rattle.meaning.specs.Copies.{Choice, merged, kept_apart, LinkedBy}
 use Rattle.held.specs.Kept.{KeptAll}
 use Rattle.held.specs.declared.Table.{Table}
 use Rattle.sharing.specs.Firsts.{FirstsNoted}
-use Rattle.sharing.specs.Links.{link_bytes, LinkedIn, Shows, OfTrees}
-use Rattle.links.specs.Link.{Linked, Tried}
+use Rattle.sharing.specs.Links.{Square, is_linked, LinkedIn, Shows, OfTrees}
+use Rattle.links.specs.Link.{Linked}
 use Rattle.links.specs.declared.Link.{Link}
-use Rattle.links.specs.declared.Test.{Test}
 use Rattle.links.specs.declared.Copies.{Copies}
 use Rattle.links.specs.declared.Copies.TheVariants.{Merged, KeptApart}
 
@@ -18,36 +18,32 @@ abbrev pub choice_of : Copies → Choice
 choice_of Merged = merged
 choice_of KeptApart = kept_apart
 
--- the table keeps some trees, whose firsts are noted, and there is a byte for each two positions
-pub record FirstsRoom (table : Table) (firsts links : List ℕ) : Type 0 where
+-- the table keeps some trees, whose firsts are noted, and there is a flag for each two positions
+pub record FirstsRoom (table : Table) (firsts : List ℕ) (links : List (List Bool)) : Type 0 where
   pub kept : KeptAll table
   pub noted : FirstsNoted table firsts
   pub lent : max_trees ≤ length firsts
-  pub bytes : length links ≡ link_bytes
+  pub square : Square links
 
--- the bytes link no two positions
-abbrev pub NoneLinked : List ℕ → Type 0
-NoneLinked links = (place : ℕ) → get_or links place 0 ≡ 0
-
--- the bytes show which first positions are so linked
-abbrev pub FirstsLinked : Link → Table → List ℕ → Type 0
+-- the flags show which first positions are so linked
+abbrev pub FirstsLinked : Link → Table → List (List Bool) → Type 0
 FirstsLinked by table links = OfTrees table (λ ts. Shows links (length ts) (LinkedBy merged (Linked by) ts))
 
--- linked are the positions that were, and the first positions whose trees pass the test
-abbrev pub TriedLinked : Test → Table → List ℕ → List ℕ → Type 0
-TriedLinked test table links links' = OfTrees table (λ ts. Shows links' (length ts) (λ i j. LinkedIn links i j ⊎ LinkedBy merged (Tried test) ts i j))
+-- linked are the positions that were, and the first positions whose trees R links
+abbrev pub TriedLinked : (Topology → Topology → Type 0) → Table → List (List Bool) → List (List Bool) → Type 0
+TriedLinked R table links links' = OfTrees table (λ ts. Shows links' (length ts) (λ i j. LinkedIn links i j ⊎ LinkedBy merged R ts i j))
 
--- the bytes show which positions are so linked, with copies so chosen
-abbrev pub TreesLinked : Link → Copies → Table → List ℕ → Type 0
+-- the flags show which positions are so linked, with copies so chosen
+abbrev pub TreesLinked : Link → Copies → Table → List (List Bool) → Type 0
 TreesLinked by copies table links = OfTrees table (λ ts. Shows links (length ts) (LinkedBy (choice_of copies) (Linked by) ts))
 
--- the byte of two positions whose firsts are a and b; of copies it is 0
-abbrev pub link_of : List ℕ → ℕ → ℕ → ℕ
-link_of links a b = cond (eqb a b) 0 (get_or links (min a b * max_trees + max a b) 0)
+-- the flag of two positions whose firsts are a and b; of copies it is not set
+abbrev pub link_of : List (List Bool) → ℕ → ℕ → Bool
+link_of links a b = cond (eqb a b) false (is_linked links (min a b) (max a b))
 
--- the firsts of n positions are positions that a table can have, and there is a byte for each two
-pub record CopyRoom (firsts : List ℕ) (n : ℕ) (links : List ℕ) : Type 0 where
+-- the firsts of n positions are positions that a table can have, and there is a flag for each two
+pub record CopyRoom (firsts : List ℕ) (n : ℕ) (links : List (List Bool)) : Type 0 where
   pub few : n ≤ max_trees
   pub lent : n ≤ length firsts
   pub below : (i : ℕ) → i < n → get_or firsts i 0 < max_trees
-  pub bytes : length links ≡ link_bytes
+  pub square : Square links

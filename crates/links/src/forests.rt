@@ -1,8 +1,7 @@
 // Links of first positions by a forest that their trees share.
-ghost use Rattle.std.specs.Prelude.{◌≡◌, length};
-ghost use Rattle.sharing.specs.Links.{link_bytes};
+ghost use Rattle.sharing.specs.Links.{Square, NoneLinked};
 ghost use Rattle.links.specs.declared.Link.TheVariants.{Move};
-ghost use Rattle.links.specs.Copies.{FirstsRoom, NoneLinked, FirstsLinked};
+ghost use Rattle.links.specs.Copies.{FirstsRoom, FirstsLinked};
 
 use chains::Entries;
 use held::Table;
@@ -10,15 +9,14 @@ use sharing::Links;
 
 // Links the first positions of topologies that are one move apart: distinct trees are exactly when they share a forest
 // (Lemma 2.2 of document 001).
-pub fn link_moves(links: &mut [u8; Links::SIZE], table: &Table, firsts: &[u16])
+pub fn link_moves(links: &mut Links, table: &Table, firsts: &[u16])
     requires { FirstsRoom table.now firsts.now links.old × NoneLinked links.old }
-    ensures { FirstsLinked Move table.now links.new × (length links.new ≡ link_bytes) }
+    ensures { FirstsLinked Move table.now links.new × Square links.new }
 {
-    let mut nodes = [0u8; Entries::SIZE];
     let mut keys = [0u32; Entries::SIZE];
-    sharing::lay_out(&mut nodes, &mut keys, table, firsts);
+    sharing::lay_out(&mut keys, table, firsts);
     let end = table.len * Entries::ROW;
     let mut same = [0u16; Entries::SIZE];
     chains::note_same(&mut same, &keys, end);
-    sharing::link_sharing(links, &nodes, &keys, &same, end);
+    sharing::link_sharing(links, table, &keys, &same, end);
 }

@@ -13,19 +13,18 @@ ghost use Rattle.graph.specs.Graph.{slices, ListRoom, Graph};
 ghost use Rattle.calls.specs.Paper.{text_outcome};
 ghost use Rattle.listing_calls.specs.Paper.{graph_outcome, first_slices, firsts_outcome, island_slices, islands_outcome};
 
-use calls::TextAnswer;
 use held::Table;
 use lent::enough;
 use links::{Copies, Link};
 use reading::Takes;
 use sheet::Sheet;
-use tokens::{Refusal, Step};
+use tokens::{Reason, Refusal};
 
-// What the graph calls answer: the numbers of trees and of pairs, or why it refuses.
-#[derive(Drop)]
-pub enum GraphAnswer {
-    Listed(usize, usize),
-    Refused(Refusal),
+// How much the graph calls list: trees, and pairs.
+#[derive(Clone, Copy, Debug, PartialEq, Eq)]
+pub struct GraphSize {
+    pub trees: usize,
+    pub pairs: usize,
 }
 
 // Lists the pairs of the table's trees that are one interchange apart, with copies kept apart and the first positions noted in
@@ -48,21 +47,21 @@ fn list_interchanges(pairs: &mut [u16], counts: &mut [u16], table: Table) -> usi
 
 // Interchange call: the pairs of rooted trees that are one interchange apart, i and then j of each, and the neighbour count of
 // each tree.
-pub fn interchange_call(s: &[u8], pairs: &mut [u16], counts: &mut [u16]) -> GraphAnswer
+pub fn interchange_call(
+    s: &[u8],
+    pairs: &mut [u16],
+    counts: &mut [u16],
+) -> Result<GraphSize, Refusal>
     ensures { InterchangeCall s.now (slices pairs.old counts.old)
         (graph_outcome result pairs.new counts.new) }
 {
     let counts_fit = enough(Table::MAX_TREES, counts.len(), true);
     let fits = enough(Table::PAIR_NUMBERS, pairs.len(), counts_fit);
-    let read = tables::read_lent_table(s, fits, Takes::RootedOnly);
-    let step = read.step;
-    match step {
-        Step::Refused(x) => GraphAnswer::Refused(x),
-        Step::Next(_, count) => GraphAnswer::Listed(
-            count,
-            list_interchanges(pairs, counts, read.table),
-        ),
-    }
+    let table = tables::read_lent_table(s, fits, Takes::RootedOnly)?;
+    Ok(GraphSize {
+        trees: table.len,
+        pairs: list_interchanges(pairs, counts, table),
+    })
 }
 
 // Graph call with a stated choice: the pairs that are one move apart, with copies merged or kept apart, and for every tree its
@@ -73,22 +72,18 @@ pub fn graph_call_choosing(
     pairs: &mut [u16],
     counts: &mut [u16],
     firsts: &mut [u16],
-) -> GraphAnswer
+) -> Result<GraphSize, Refusal>
     ensures { ChoosingCall (choice_of copies) s.now (first_slices pairs.old counts.old firsts.old)
         (firsts_outcome result pairs.new counts.new firsts.new) }
 {
     let firsts_fit = enough(Table::MAX_TREES, firsts.len(), true);
     let counts_fit = enough(Table::MAX_TREES, counts.len(), firsts_fit);
     let fits = enough(Table::PAIR_NUMBERS, pairs.len(), counts_fit);
-    let read = tables::read_lent_table(s, fits, Takes::Either);
-    let step = read.step;
-    match step {
-        Step::Refused(x) => GraphAnswer::Refused(x),
-        Step::Next(_, count) => GraphAnswer::Listed(
-            count,
-            graph::list_moves(pairs, counts, firsts, read.table, copies),
-        ),
-    }
+    let table = tables::read_lent_table(s, fits, Takes::Either)?;
+    Ok(GraphSize {
+        trees: table.len,
+        pairs: graph::list_moves(pairs, counts, firsts, table, copies),
+    })
 }
 
 // Graph call: copies are merged.
@@ -97,7 +92,7 @@ pub fn graph_call(
     pairs: &mut [u16],
     counts: &mut [u16],
     firsts: &mut [u16],
-) -> GraphAnswer
+) -> Result<GraphSize, Refusal>
     ensures { GraphCall s.now (first_slices pairs.old counts.old firsts.old)
         (firsts_outcome result pairs.new counts.new firsts.new) }
 {
@@ -111,7 +106,7 @@ pub fn islands_call(
     counts: &mut [u16],
     firsts: &mut [u16],
     islands: &mut [u16],
-) -> GraphAnswer
+) -> Result<GraphSize, Refusal>
     ensures { IslandsCall s.now (island_slices pairs.old counts.old firsts.old islands.old)
         (islands_outcome result pairs.new counts.new firsts.new islands.new) }
 {
@@ -119,23 +114,19 @@ pub fn islands_call(
     let firsts_fit = enough(Table::MAX_TREES, firsts.len(), islands_fit);
     let counts_fit = enough(Table::MAX_TREES, counts.len(), firsts_fit);
     let fits = enough(Table::PAIR_NUMBERS, pairs.len(), counts_fit);
-    let read = tables::read_lent_table(s, fits, Takes::Either);
-    let step = read.step;
-    match step {
-        Step::Refused(x) => GraphAnswer::Refused(x),
-        Step::Next(_, count) => GraphAnswer::Listed(
-            count,
-            numbering::list_islands(pairs, counts, firsts, islands, read.table),
-        ),
-    }
+    let table = tables::read_lent_table(s, fits, Takes::Either)?;
+    Ok(GraphSize {
+        trees: table.len,
+        pairs: numbering::list_islands(pairs, counts, firsts, islands, table),
+    })
 }
 
 // Sheet call: what the pair lister prints for s, from the start of out on; a text that is refused has its line printed.
-pub fn sheet_call(s: &[u8], out: &mut [u8]) -> TextAnswer
+pub fn sheet_call(s: &[u8], out: &mut [u8]) -> Result<usize, Refusal>
     ensures { SheetCall s.now out.old (text_outcome result out.new) }
 {
     if !enough(Sheet::MAX_BYTES, out.len(), true) {
-        return TextAnswer::Refused(calls::refusal_at_zero(Refusal::SHORT_SLICE, 0));
+        return Err(Reason::ShortSlice.at(0));
     }
-    TextAnswer::Written(sheet::print_sheet(s, out))
+    Ok(sheet::print_sheet(s, out))
 }

@@ -33,7 +33,10 @@ use Rattle.majority.specs.Texts.{marked, CladeRoom, Lists, MajorityRoom}
 
 -- of the first n clades and numbers, the list of support of ts, the first k are those of the majority tree
 module _ (ts : List Topology) (A : EachGood ts) {clades numbers : List ℕ} {n : ℕ} (L : Lists ts clades numbers n) (inside : n ≤ length clades) (beside : n ≤ length numbers)
-    {trees k : ℕ} (count : trees ≡ length ts) (F : Front numbers n trees k) where
+    {trees k : ℕ} (count : trees ≡ length ts) (F : Front (take n numbers) trees k) where
+  pub front-few : k ≤ n
+  front-few = omega (arith, F.few, length-take-le n numbers beside)
+
   long : length (supported ts) ≡ n
   long = ap length (sym L.each) ∙ length-take-le n clades inside
 
@@ -48,17 +51,20 @@ module _ (ts : List Topology) (A : EachGood ts) {clades numbers : List ℕ} {n :
   unfolding majority
   tested j h = ap (λ (m : ℕ). ltb m (2 * get_or numbers j 0)) count ∙ ap (λ (x : ℕ). ltb (length ts) (2 * x)) (number_at j h)
 
+  at-front : (j : ℕ) → j < n → ltb trees (2 * get_or (take n numbers) j 0) ≡ ltb trees (2 * get_or numbers j 0)
+  at-front j h = ap (λ (x : ℕ). ltb trees (2 * x)) (get_or-take n numbers j 0 h)
+
   pub front-chosen : chosen ts ≡ take k clades
   front-chosen =
       chosen-prefix ts A k
-      (omega (arith, F.few, long))
-      (λ j h. subst T (sym (F.above j h) ∙ tested j (omega (arith, h, F.few))) tt)
-      (λ h m. subst T (sym (tested k (omega (arith, h, long))) ∙ F.stop (omega (arith, h, long))) m)
+      (omega (arith, front-few, long))
+      (λ j h. subst T (sym (F.above j h) ∙ at-front j (omega (arith, h, front-few)) ∙ tested j (omega (arith, h, front-few))) tt)
+      (λ h m. subst T (sym (at-front k (omega (arith, h, long)) ∙ tested k (omega (arith, h, long))) ∙ F.stop (omega (arith, h, long, length-take-le n numbers beside))) m)
       ∙ ap (take k) (sym L.each)
-      ∙ take-take k n clades F.few
+      ∙ take-take k n clades front-few
 
 -- the trees of a table, of which t is the first
-module _ {table : Table} {clades numbers : List ℕ} {n len : ℕ} (R : MajorityRoom table clades numbers n len) {k : ℕ} (F : Front numbers n table.len k) where
+module _ {table : Table} {clades numbers : List ℕ} {n len : ℕ} (R : MajorityRoom table clades numbers n len) {k : ℕ} (F : Front (take n numbers) table.len k) where
   module _ (t : Topology) (ts : List Topology) (H : KeepsAll table (t ∷ ts)) where
     A : EachGood (t ∷ ts)
     A = each-good (t ∷ ts) (keeps-good H)
@@ -99,13 +105,12 @@ module _ {table : Table} {clades numbers : List ℕ} {n len : ℕ} (R : Majority
 
     -- c is the label set of the first tree
     module _ {c : ℕ} (labels : (t : Topology) → Keeps (held_at table 0) t → c ≡ clade (canon t)) where
-      pub whole_room : CladeRoom clades k c 0 len
+      pub whole_room : CladeRoom (take k clades) c 0 len
       whole_room = go R.kept.trees R.kept.keeps
         where
-          go : (ts : List Topology) → KeepsAll table ts → CladeRoom clades k c 0 len
+          go : (ts : List Topology) → KeepsAll table ts → CladeRoom (take k clades) c 0 len
           go [] H = absurd (some H.count)
           go (t ∷ ts) H = record {
-            few = omega (arith, F.few, R.inside);
             tree = tree t ts H;
             grows = grows-whole t ts H (labels t (H.each 0 (omega arith)));
             room = omega (arith, text-room t ts H);

@@ -20,12 +20,11 @@ bracket false byte = []
 abbrev pub marked : List ℕ → Topology → List ℕ
 marked cs t = write_multi (mark cs t)
 
--- a tree grows to c from the first k clades, and there is room for its text
-pub record CladeRoom (clades : List ℕ) (k c at len : ℕ) : Type 0 where
-  pub few : k ≤ length clades
+-- a tree grows to c from the clades, and there is room for its text
+pub record CladeRoom (clades : List ℕ) (c at len : ℕ) : Type 0 where
   pub tree : Topology
-  pub grows : GrowsTo (take k clades) c tree
-  pub room : at + length (marked (take k clades) tree) ≤ len
+  pub grows : GrowsTo clades c tree
+  pub room : at + length (marked clades tree) ≤ len
 
 -- the first n clades and numbers are the list of support of the trees ts
 pub record Lists (ts : List Topology) (clades numbers : List ℕ) (n : ℕ) : Type 0 where

@@ -8,15 +8,10 @@ mod row_samples;
 
 use std::io;
 
-fn wide(x: u16) -> usize {
-    x as usize
-}
-
 fn main(rt: HostRuntime) -> io::Result<()> {
     listing_samples::graphs(&rt)?;
     clade_samples::supports(&rt)?;
     row_samples::rows(&rt)?;
     plot_samples::plots(&rt)?;
-    listing_samples::sheets(&rt)?;
-    Ok(())
+    listing_samples::sheets(&rt)
 }

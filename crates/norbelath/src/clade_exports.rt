@@ -6,7 +6,7 @@ ghost use Rattle.replies.specs.LongCoded.{support_coded};
 
 use replies::support_reply;
 
-// Support call: the numbers are the clades, the bytes of the majority tree's text and the trees.
+/// Support call: the numbers are the clades, the bytes of the majority tree's text and the trees.
 #[unsafe(no_mangle)]
 pub extern "C" fn norbelath_support(
     text: &[u8],

@@ -2,9 +2,9 @@
 ghost use Rattle.holdings.specs.IndexCalls.{AddCall, AskCall, RemoveCall};
 ghost use Rattle.replies.specs.Coded.{text_coded, done_coded};
 
-use replies::{add_reply, hand_back, remove_reply, text_reply};
+use replies::{hand_back, reply_of};
 
-// Adding call: the numbers are the tree's number and 0.
+/// Adding call: the numbers are the tree's number and 0.
 #[unsafe(no_mangle)]
 pub extern "C" fn norbelath_index_add(
     memory: &mut [u8],
@@ -15,13 +15,13 @@ pub extern "C" fn norbelath_index_add(
     ensures { AddCall text.now memory.old (text_coded result first.new second.new memory.new) }
 {
     hand_back(
-        add_reply(index_calls::index_add_call(memory, text)),
+        reply_of(index_calls::index_add_call(memory, text)),
         first,
         second,
     )
 }
 
-// Asking call: the numbers are how many neighbours are listed and 0.
+/// Asking call: the numbers are how many neighbours are listed and 0.
 #[unsafe(no_mangle)]
 pub extern "C" fn norbelath_index_neighbours(
     memory: &[u8],
@@ -33,13 +33,13 @@ pub extern "C" fn norbelath_index_neighbours(
     ensures { AskCall number memory.now list.old (text_coded result first.new second.new list.new) }
 {
     hand_back(
-        text_reply(index_calls::index_neighbours_call(memory, number, list)),
+        reply_of(index_calls::index_neighbours_call(memory, number, list)),
         first,
         second,
     )
 }
 
-// Removing call: the numbers are 0 and 0.
+/// Removing call: the numbers are 0 and 0.
 #[unsafe(no_mangle)]
 pub extern "C" fn norbelath_index_remove(
     memory: &mut [u8],
@@ -50,7 +50,7 @@ pub extern "C" fn norbelath_index_remove(
     ensures { RemoveCall number memory.old (done_coded result first.new second.new memory.new) }
 {
     hand_back(
-        remove_reply(index_calls::index_remove_call(memory, number)),
+        reply_of(index_calls::index_remove_call(memory, number)),
         first,
         second,
     )

@@ -12,9 +12,9 @@ ghost use Rattle.meaning.specs.Calls.{form_call, cut_call, PairCall, table_call,
 ghost use Rattle.meaning.specs.Sheet.{SheetCall};
 ghost use Rattle.replies.specs.Coded.{coded, pair_value, text_coded, table_coded, graph_coded, choice_coded, firsts_coded, islands_coded};
 
-use replies::{copies_of, graph_reply, hand_back, pair_reply, table_reply, text_reply};
+use replies::{copies_of, hand_back, reply_of};
 
-// Form call: the numbers are the bytes written and 0.
+/// Form call: the numbers are the bytes written and 0.
 #[unsafe(no_mangle)]
 pub extern "C" fn norbelath_form(
     text: &[u8],
@@ -24,10 +24,10 @@ pub extern "C" fn norbelath_form(
 ) -> u8
     ensures { text_coded result first.new second.new out.new ≡ form_call text.now out.old }
 {
-    hand_back(text_reply(calls::form_call(text, out)), first, second)
+    hand_back(reply_of(calls::form_call(text, out)), first, second)
 }
 
-// Cut call: the numbers are the bytes written and 0.
+/// Cut call: the numbers are the bytes written and 0.
 #[unsafe(no_mangle)]
 pub extern "C" fn norbelath_cut(
     text: &[u8],
@@ -38,22 +38,23 @@ pub extern "C" fn norbelath_cut(
 ) -> u8
     ensures { text_coded result first.new second.new out.new ≡ cut_call text.now cut out.old }
 {
+    // `as`: `usize::try_from` would have to say what becomes of a number that does not fit, and each does.
     hand_back(
-        text_reply(calls::cut_call(text, cut as usize, out)),
+        reply_of(calls::cut_call(text, cut as usize, out)),
         first,
         second,
     )
 }
 
-// Pair call: the numbers are 1 for yes or 0 for no, and how many forests were compared.
+/// Pair call: the numbers are 1 for yes or 0 for no, and how many forests were compared.
 #[unsafe(no_mangle)]
 pub extern "C" fn norbelath_pair(text: &[u8], other: &[u8], first: &mut u64, second: &mut u64) -> u8
     ensures { PairCall text.now other.now (coded pair_value result first.new second.new) }
 {
-    hand_back(pair_reply(calls::pair_call(text, other)), first, second)
+    hand_back(reply_of(calls::pair_call(text, other)), first, second)
 }
 
-// Table call: the numbers are the bytes written and the trees.
+/// Table call: the numbers are the bytes written and the trees.
 #[unsafe(no_mangle)]
 pub extern "C" fn norbelath_table(
     text: &[u8],
@@ -66,13 +67,13 @@ pub extern "C" fn norbelath_table(
         ≡ table_call text.now (record { texts = texts.old; ends = ends.old }) }
 {
     hand_back(
-        table_reply(calls::table_call(text, texts, ends)),
+        reply_of(calls::table_call(text, texts, ends)),
         first,
         second,
     )
 }
 
-// Graph call with a stated choice: the numbers are the trees and the pairs.
+/// Graph call with a stated choice: the numbers are the trees and the pairs.
 #[unsafe(no_mangle)]
 pub extern "C" fn norbelath_graph_choosing(
     text: &[u8],
@@ -89,13 +90,13 @@ pub extern "C" fn norbelath_graph_choosing(
 {
     let copies = copies_of(choice);
     hand_back(
-        graph_reply(listing_calls::graph_call_choosing(text, copies, pairs, counts, firsts)),
+        reply_of(listing_calls::graph_call_choosing(text, copies, pairs, counts, firsts)),
         first,
         second,
     )
 }
 
-// Graph call: the numbers are the trees and the pairs.
+/// Graph call: the numbers are the trees and the pairs.
 #[unsafe(no_mangle)]
 pub extern "C" fn norbelath_graph(
     text: &[u8],
@@ -110,13 +111,13 @@ pub extern "C" fn norbelath_graph(
         (firsts_coded result first.new second.new pairs.new counts.new firsts.new) }
 {
     hand_back(
-        graph_reply(listing_calls::graph_call(text, pairs, counts, firsts)),
+        reply_of(listing_calls::graph_call(text, pairs, counts, firsts)),
         first,
         second,
     )
 }
 
-// Interchange call: the numbers are the trees and the pairs.
+/// Interchange call: the numbers are the trees and the pairs.
 #[unsafe(no_mangle)]
 pub extern "C" fn norbelath_interchanges(
     text: &[u8],
@@ -129,13 +130,13 @@ pub extern "C" fn norbelath_interchanges(
         (graph_coded result first.new second.new pairs.new counts.new) }
 {
     hand_back(
-        graph_reply(listing_calls::interchange_call(text, pairs, counts)),
+        reply_of(listing_calls::interchange_call(text, pairs, counts)),
         first,
         second,
     )
 }
 
-// Islands call: the numbers are the trees and the pairs.
+/// Islands call: the numbers are the trees and the pairs.
 #[unsafe(no_mangle)]
 pub extern "C" fn norbelath_islands(
     text: &[u8],
@@ -154,13 +155,13 @@ pub extern "C" fn norbelath_islands(
         (islands_coded result first.new second.new pairs.new counts.new firsts.new islands.new) }
 {
     hand_back(
-        graph_reply(listing_calls::islands_call(text, pairs, counts, firsts, islands)),
+        reply_of(listing_calls::islands_call(text, pairs, counts, firsts, islands)),
         first,
         second,
     )
 }
 
-// Sheet call: the numbers are the bytes written and 0.
+/// Sheet call: the numbers are the bytes written and 0.
 #[unsafe(no_mangle)]
 pub extern "C" fn norbelath_sheet(
     text: &[u8],
@@ -171,7 +172,7 @@ pub extern "C" fn norbelath_sheet(
     ensures { SheetCall text.now out.old (text_coded result first.new second.new out.new) }
 {
     hand_back(
-        text_reply(listing_calls::sheet_call(text, out)),
+        reply_of(listing_calls::sheet_call(text, out)),
         first,
         second,
     )

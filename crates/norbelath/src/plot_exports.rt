@@ -4,9 +4,9 @@ ghost use Rattle.plots.specs.PlotCall.{plot_call};
 ghost use Rattle.plot_calls.specs.Paper.{plot_memory};
 ghost use Rattle.replies.specs.Coded.{plot_coded};
 
-use replies::{hand_back, text_reply};
+use replies::{hand_back, reply_of};
 
-// Plot call: the numbers are how many nodes the tree has and 0.
+/// Plot call: the numbers are how many nodes the tree has and 0.
 #[unsafe(no_mangle)]
 pub extern "C" fn norbelath_plot(
     text: &[u8],
@@ -19,7 +19,7 @@ pub extern "C" fn norbelath_plot(
         ≡ plot_call text.now (plot_memory rows.old columns.old) }
 {
     hand_back(
-        text_reply(plot_calls::plot_call(text, rows, columns)),
+        reply_of(plot_calls::plot_call(text, rows, columns)),
         first,
         second,
     )

@@ -1,10 +1,10 @@
 -- What numbering islands asks of the lent slices, and what it leaves in them.
 -- Assumes nothing.
-use Rattle.std.specs.Prelude.{List, ℕ, ◌≤◌, length}
+use Rattle.std.specs.Prelude.{◌≡◌, List, ℕ, ◌≤◌, length}
 use Rattle.meaning.specs.Limits.{max_trees}
 use Rattle.meaning.specs.Kind.{Trees}
 use Rattle.meaning.specs.EitherKind.{ApartAs}
-use Rattle.meaning.specs.Listing.{Pair}
+use Rattle.meaning.specs.Listing.{Pair, flat}
 use Rattle.meaning.specs.Answer.{GraphMemory}
 use Rattle.meaning.specs.Islands.{Within}
 use Rattle.meaning.specs.Copies.{MergedIslands}
@@ -12,16 +12,14 @@ use Rattle.lent.specs.Runs.{Wrote}
 use Rattle.held.specs.declared.Table.{Table}
 use Rattle.links.specs.declared.Copies.TheVariants.{Merged}
 use Rattle.graph.specs.Copies.{MovesRoom, FirstsGraph, OfOneKind}
-use Rattle.graph.specs.Listed.{PairsListed}
 
--- there is room for the numbers of n positions, `firsts` begins with theirs, and `pairs` with m pairs of them
-pub record IslandsRoom (numbers firsts : List ℕ) (n : ℕ) (pairs : List ℕ) (m : ℕ) : Type 0 where
-  pub few : n ≤ max_trees
-  pub room : n ≤ length numbers
-  pub lent : n ≤ length firsts
+-- there is room for the number of each position whose first is listed, and `pairs` are pairs of them
+pub record IslandsRoom (numbers firsts pairs : List ℕ) : Type 0 where
+  pub few : length numbers ≤ max_trees
+  pub same : length firsts ≡ length numbers
   pub linked : List Pair
-  pub listed : PairsListed pairs m linked
-  pub within : Within n linked
+  pub listed : pairs ≡ flat linked
+  pub within : Within (length numbers) linked
 
 -- the merged graph of the trees ts was written, and the numbers of its islands
 pub record IslandGraph (ts : Trees) (memory memory' : GraphMemory) (firsts firsts' islands islands' : List ℕ) (r : ℕ) : Type 0 where

@@ -2,15 +2,13 @@
 // The pair lister: reads standard input to its end and prints the sheet, or says on standard error that the input could not be
 // read, and prints nothing. One byte above the limit is enough to refuse the text; what stands behind the buffer is not read.
 // The status is 1 where standard input could not be read or standard output not written whole, and else 0.
-use console::Input;
 use held::Tree;
 use sheet::Sheet;
 use std::process::ExitCode;
 
 fn main(rt: HostRuntime) -> ExitCode {
     let mut text = [0u8; Tree::TEXT_BYTES + 1];
-    let input = console::read_input(&rt, &mut text);
-    let Input::Whole(length) = input else {
+    let Ok(length) = console::read_input(&rt, &mut text) else {
         return ExitCode::FAILURE;
     };
     let mut out = [0u8; Sheet::MAX_BYTES];

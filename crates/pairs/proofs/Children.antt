@@ -1,49 +1,79 @@
--- Held forks and their children.
+-- Held forks, nodes that are forks, and their children.
 -- Assumes nothing.
-use mathlib.Core.Path.{◌≡◌, sym, subst, subst₂}
+use mathlib.Core.Path.{◌≡◌, refl, sym, ap, subst, subst₂, ◌∙◌}
+use mathlib.Core.Bool.{Bool}
 use mathlib.Core.List.{List}
-use Prim.Native.Nat.{ℕ, ◌+◌, ◌<◌}
-use lib.ListN.{get_or}
+use Prim.Native.Nat.{ℕ, ◌+◌}
+use native.Mathlib.Omega.{arith}
 use Rattle.meaning.specs.Tree.{Tree, leaf, fork}
-use Rattle.meaning.specs.Interchange.{Forks}
-use Rattle.held.specs.Held.{Holds, Held, nodes}
-use Rattle.held.proofs.Laws.{children, forked, unique}
+use Rattle.meaning.specs.Interchange.{Forks, in_order, turned}
+use Rattle.lent.specs.Runs.{Says}
+use Rattle.held.specs.Held.{Holds, nodes}
+use Rattle.held.specs.Node.{subtree}
+use Rattle.held.specs.declared.node.Node.{Node}
+use Rattle.held.proofs.Laws.{children}
+use Rattle.held.proofs.Subtree.{at-node}
+use Rattle.pairs.specs.Children.{IsFork, SecondOf}
 use Rattle.pairs.specs.Ordered.{HeldFork}
 
--- r is the index of the second child, as `second_child` says
+-- r is the index of the second child
 abbrev pub SecondAt : List ℕ → ℕ → ℕ → Type 0
 SecondAt xs k r = (a b : Tree) → Holds xs k (fork a b) → r ≡ k + 1 + nodes a
 
--- a byte above 64 is a fork's
-pub fork-held : {xs : List ℕ} {k : ℕ} → Held xs k → 64 < get_or xs k 0 → HeldFork xs k
-fork-held {xs} {k} h large =
-    let f = forked h.holds large in
-    record { first = f.first; second = f.second; holds = subst (Holds xs k) f.is f.whole }
+-- r says whether the subtree of xs at i is that of ys at j
+abbrev pub SameAt : List ℕ → ℕ → List ℕ → ℕ → Bool → Type 0
+SameAt xs i ys j r = (s t : Tree) → Holds xs i s → Holds ys j t → Says r (s ≡ t)
 
-module _ {xs : List ℕ} {k : ℕ} where
-  pub holds-first : {a b : Tree} → Holds xs k (fork a b) → Holds xs (k + 1) a
+module _ {xs : List ℕ} {k : ℕ} {a b : Tree} where
+  pub holds-first : Holds xs k (fork a b) → Holds xs (k + 1) a
   holds-first h = (children h).0
 
-  pub holds-second : {a b : Tree} {r : ℕ} → SecondAt xs k r → Holds xs k (fork a b) → Holds xs r b
-  holds-second {a} {b} at h = rw (at a b h) (children h).1
+  pub holds-second : {r : ℕ} → SecondAt xs k r → Holds xs k (fork a b) → Holds xs r b
+  holds-second at h = rw (at a b h) (children h).1
 
-  pub first-held : HeldFork xs k → Held xs (k + 1)
-  first-held f = record { tree = f.first; holds = holds-first f.holds }
+-- ---- x is the node at k of xs, as `Node::new` says
+module _ (x : Node) {xs : List ℕ} {k : ℕ} (new : (x.tree.now ≡ xs) × (x.at ≡ k)) where
+  pub new-fork : HeldFork xs k → IsFork (subtree x)
+  new-fork f = record { first = f.first; second = f.second; is = at-node x new f.holds }
 
-  pub second-held : {r : ℕ} → SecondAt xs k r → HeldFork xs k → Held xs r
-  second-held at f = record { tree = f.second; holds = holds-second at f.holds }
+  -- and s its second child
+  module _ {s : Node} (c : SecondOf x s) where
+    pub second-at : SecondAt xs k s.at
+    second-at a b h =
+        let whole : subtree x ≡ fork a b = at-node x new h in
+        let is = c.children.is in
+        let first-is : subtree c.first ≡ a = cc in
+        omega (arith, c.children.second_at, new.1, ap nodes first-is)
 
-  -- what is so of the fork that is held is so of each tree that is
-  pub each-fork : {t : Tree} (P : Tree → Type 0) → 64 < get_or xs k 0 → Holds xs k t → ((a b : Tree) → Holds xs k (fork a b) → P (fork a b)) → P t
-  each-fork {t} P large h f =
-      let w = forked h large in
-      subst P (sym w.is) (f w.first w.second (subst (Holds xs k) w.is h))
+    pub second-in : s.tree.now ≡ xs
+    second-in = c.children.second_in ∙ new.0
 
--- and of two forks, of each two trees
-pub each-forks : {xs ys : List ℕ} {k : ℕ} (P : Tree → Tree → Type 0) (f : HeldFork xs k) (g : HeldFork ys k)
-    → P (fork f.first f.second) (fork g.first g.second) → (t u : Tree) → Holds xs k t → Holds ys k u → P t u
-each-forks P f g p t u h l = subst₂ P (unique f.holds h) (unique g.holds l) p
+    -- so the fork that is held there has its subtree
+    pub second-holds : HeldFork xs k → Holds xs k (fork (subtree c.first) (subtree s))
+    second-holds f = subst (Holds xs k) (sym (at-node x new f.holds) ∙ c.children.is) f.holds
 
+  -- r says whether its subtree is that of y
+  pub same-at : (y : Node) {ys : List ℕ} {j : ℕ} → (y.tree.now ≡ ys) × (y.at ≡ j) → (r : Bool) → Says r (subtree x ≡ subtree y) → SameAt xs k ys j r
+  same-at y new' r told s t h g = subst₂ (λ u v. Says r (u ≡ v)) (at-node x new h) (at-node y new' g) told
+
+-- ---- what stands beside a child
 -- a leaf is no fork
 pub forks-leaf : {s t : Tree} {n : ℕ} → Forks s t (leaf n) → ⊥
 forks-leaf f = elim f [ ]
+
+pub leaf-none : {s t : Tree} {n : ℕ} → s ≡ leaf n → (other : Tree) → ¬ Forks other t s
+leaf-none {s} {t} e other f = forks-leaf (rw e at f)
+
+module _ {s a b t : Tree} (e : s ≡ fork a b) where
+  pub second-beside : a ≡ t → Forks b t s
+  second-beside f = subst₂ (Forks b) f (sym e) turned
+
+  pub first-beside : b ≡ t → Forks a t s
+  first-beside f = subst₂ (Forks a) f (sym e) in_order
+
+  pub none-beside : ¬ (a ≡ t) → ¬ (b ≡ t) → (other : Tree) → ¬ Forks other t s
+  none-beside m n other f = go (rw e at f) m n
+    where
+      go : {x y z : Tree} → Forks other z (fork x y) → ¬ (x ≡ z) → ¬ (y ≡ z) → ⊥
+      go in_order m n = n refl
+      go turned m n = m refl

@@ -1,7 +1,6 @@
 -- What is left of a held tree without a node: fork by fork, its labels, as a cut leaves it, and the way down to the node.
 -- Assumes nothing.
 use mathlib.Core.Path.{◌≡◌, refl, sym, ap, ap₂, subst, ◌∙◌}
-use mathlib.Core.List.{List}
 use Prim.Native.Nat.{ℕ, suc, ◌+◌, ◌≤◌, ◌<◌}
 use native.Mathlib.Decide.{ℕ_discrete}
 use native.Mathlib.Omega.{arith}
@@ -10,12 +9,10 @@ use lib.ListN.{length}
 use Rattle.meaning.specs.Tree.{Tree, leaf, fork, In, Distinct, ◌⊆◌}
 use Rattle.meaning.specs.Move.{Cut, cuts}
 use Rattle.meaning.specs.Interchange.{Forks, in_order, turned}
-use Rattle.held.specs.Held.{nodes, Holds, cut_in}
-use Rattle.held.proofs.Laws.{some-nodes, children, ForkAt, forked-by, each-is}
+use Rattle.held.specs.Held.{nodes, cut_in}
+use Rattle.held.proofs.Laws.{some-nodes}
 use Rattle.held.proofs.Cut.{cuts-nodes, first-cut, second-cut, first-deeper, second-deeper, Which, at_first, at_second, below-first, below-second, which}
-use Rattle.pairs.specs.Ordered.{HeldFork}
-use Rattle.pairs.specs.Left.{left, Below, Cutting, Leads}
-use Rattle.pairs.proofs.Children.{SecondAt}
+use Rattle.pairs.specs.Left.{left, Below, Leads}
 
 -- ---- fork by fork
 module _ (p k : ℕ) (a b : Tree) where
@@ -44,59 +41,21 @@ module _ (p k : ℕ) (a b : Tree) where
   left-in-second f =
       left_open p k a b (λ e. omega (arith, some-nodes a)) (λ e. omega arith) ∙ ap (λ (s : Tree). fork s (left p (k + 1 + nodes a) b)) (left_out p (k + 1) a (λ u v. omega arith))
 
--- ---- the way down
-module _ {xs : List ℕ} {k p : ℕ} {a b : Tree} (h : Holds xs k (fork a b)) (B : Below p k (fork a b)) where
-  leads-first : p < k + 1 + nodes a → Leads xs k p (k + 1) (k + 1 + nodes a) (fork a b)
-  leads-first l = record {
-    taken = a;
-    other = b;
-    children = in_order;
-    holds_taken = (children h).0;
-    holds_other = (children h).1;
-    further = omega arith;
-    here = left-first p k a b;
-    deeper = λ n.
-        let above : k + 1 < p = omega (arith, B.above) in
-        (record { above = above; inside = l }, subst (Forks (left p (k + 1) a) b) (sym (left-in-first p k a b above l)) in_order);
-  }
+-- ---- the way down from t at k, whose children a and b stand at i and j
+module _ {p k i j : ℕ} {t a b : Tree} where
+  pub leads_one : t ≡ fork a b → i ≡ k + 1 → j ≡ k + 1 + nodes a → Below p k t → p < j → Leads p k t i a b
+  leads_one e f g B l =
+      let deeper : ¬ (p ≡ k + 1) → Below p (k + 1) a × Forks (left p (k + 1) a) b (left p k (fork a b)) = λ n.
+      let above : k + 1 < p = omega (arith, B.above) in
+      (record { above = above; inside = omega arith }, subst (Forks (left p (k + 1) a) b) (sym (left-in-first p k a b above (omega arith))) in_order) in
+      rw (e, f) (record { children = in_order; further = omega arith; here = left-first p k a b; deeper = deeper })
 
-  leads-second : k + 1 + nodes a ≤ p → Leads xs k p (k + 1 + nodes a) (k + 1) (fork a b)
-  leads-second l = record {
-    taken = b;
-    other = a;
-    children = turned;
-    holds_taken = (children h).1;
-    holds_other = (children h).0;
-    further = omega arith;
-    here = left-second p k a b;
-    deeper = λ n.
-        let above : k + 1 + nodes a < p = omega arith in
-        (record { above = above; inside = omega (arith, B.inside) }, subst (Forks (left p (k + 1 + nodes a) b) a) (sym (left-in-second p k a b above)) turned);
-  }
-
--- from a tree below whose root p stands; r is the index of its second child, as `second_child` says
-module _ {xs : List ℕ} {k p : ℕ} (C : Cutting xs k p) where
-  fork-here : ForkAt xs k C.tree
-  fork-here = forked-by C.holds (omega (arith, C.below.above, C.below.inside))
-
-  whole : Holds xs k (fork fork-here.first fork-here.second)
-  whole = subst (Holds xs k) fork-here.is C.holds
-
-  below-whole : Below p k (fork fork-here.first fork-here.second)
-  below-whole = subst (Below p k) fork-here.is C.below
-
-  pub cutting-fork : HeldFork xs k
-  cutting-fork = record { first = fork-here.first; second = fork-here.second; holds = whole }
-
-  module _ {r : ℕ} (at : SecondAt xs k r) where
-    second_is : r ≡ k + 1 + nodes fork-here.first
-    second_is = at fork-here.first fork-here.second whole
-
-    pub leads_one : p < r → (t : Tree) → Holds xs k t → Leads xs k p (k + 1) r t
-    leads_one l = each-is (λ t. Leads xs k p (k + 1) r t) C.holds fork-here.is (rw second_is (leads-first whole below-whole (omega (arith, second_is))))
-
-    pub leads-two : r ≤ p → (t : Tree) → Holds xs k t → Leads xs k p r (k + 1) t
-    leads-two l = each-is (λ t. Leads xs k p r (k + 1) t) C.holds fork-here.is (rw second_is (leads-second whole below-whole (omega (arith, second_is))))
+  pub leads-two : t ≡ fork a b → i ≡ k + 1 → j ≡ k + 1 + nodes a → Below p k t → j ≤ p → Leads p k t j b a
+  leads-two e f g B l =
+      let deeper : ¬ (p ≡ k + 1 + nodes a) → Below p (k + 1 + nodes a) b × Forks (left p (k + 1 + nodes a) b) a (left p k (fork a b)) = λ n.
+      let above : k + 1 + nodes a < p = omega arith in
+      (record { above = above; inside = omega (arith, B.inside, ap nodes e) }, subst (Forks (left p (k + 1 + nodes a) b) a) (sym (left-in-second p k a b above)) turned) in
+      rw (e, g) (record { children = turned; further = omega arith; here = left-second p k a b; deeper = deeper })
 
 -- ---- its labels are the tree's
 pub left-labels : (p k : ℕ) (t : Tree) → left p k t ⊆ t

@@ -5,4 +5,5 @@ pub mod Left
 pub mod Ordered
 pub mod Runs
 pub mod Search
+pub mod Walk
 pub mod Ways

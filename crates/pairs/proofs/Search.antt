@@ -13,6 +13,10 @@ use Rattle.meaning.specs.Clade.{clade}
 use Rattle.lent.specs.Runs.{Says}
 use Rattle.lent.proofs.Says.{said, denied, says}
 use Rattle.held.specs.Held.{nodes, Holds, Held, HasCut, cut_in}
+use Rattle.held.specs.Node.{subtree}
+use Rattle.held.specs.declared.node.Node.{Node}
+use Rattle.held.proofs.Subtree.{at-node}
+use Rattle.pairs.specs.Ordered.{InOrder}
 use Rattle.held.proofs.Laws.{inside, each}
 use Rattle.held.proofs.Cut.{cuts-nodes, cut_holds}
 use Rattle.clades.specs.Marks.{Noted}
@@ -55,20 +59,25 @@ module _ {xs : List ℕ} {c : ℕ} (k : OrderedCut xs c) where
   pub has-cut : HasCut xs c
   has-cut = record { tree = k.tree; holds = k.holds; is_cut = k.is_cut }
 
-  -- and what it leaves is what is left without that node
-  pub cutting : Cutting xs 0 (c + 1)
-  cutting = record { tree = k.tree; holds = k.holds; in_order = k.in_order; below = record { above = omega arith; inside = omega (arith, cuts-nodes k.tree, k.is_cut) } }
+  -- and what it leaves is what is left without that node, of the tree at the root x
+  pub cutting : (x : Node) → (x.tree.now ≡ xs) × (x.at ≡ 0) → Cutting (c + 1) x.at (subtree x)
+  cutting x new =
+      let e : subtree x ≡ k.tree = at-node x new k.holds in
+      record {
+        in_order = subst InOrder (sym e) k.in_order;
+        below = record { above = omega (arith, new.1); inside = omega (arith, new.1, ap nodes e, cuts-nodes k.tree, k.is_cut) };
+      }
 
-  rest-is : (t : Tree) → Holds xs 0 t → left (c + 1) 0 t ≡ (cut_in t c).rest
-  rest-is =
+  rest-is : (x : Node) → (x.tree.now ≡ xs) × (x.at ≡ 0) → (t : Tree) → Holds xs 0 t → left (c + 1) x.at (subtree x) ≡ (cut_in t c).rest
+  rest-is x new t h =
       let e : 0 + 1 + c ≡ c + 1 = omega arith in
-      each (λ (t : Tree). left (c + 1) 0 t ≡ (cut_in t c).rest) k.holds
-      (subst (λ (p : ℕ). left p 0 k.tree ≡ (cut_in k.tree c).rest) e (left-rest 0 k.tree c k.is_cut))
+      let lt = each (λ (t : Tree). c < length (cuts t)) k.holds k.is_cut t h in
+      ap (λ (i : ℕ). left (c + 1) i (subtree x)) new.1 ∙ ap (left (c + 1) 0) (at-node x new h) ∙ subst (λ (p : ℕ). left p 0 t ≡ (cut_in t c).rest) e (left-rest 0 t c lt)
 
-pub says-rest : {xs ys : List ℕ} {c d : ℕ} → OrderedCut xs c → OrderedCut ys d → (r : Bool)
-    → ((t u : Tree) → Holds xs 0 t → Holds ys 0 u → Says r (Alike (left (c + 1) 0 t) (left (d + 1) 0 u)))
+pub says-rest : {xs ys : List ℕ} {c d : ℕ} → OrderedCut xs c → OrderedCut ys d → (x y : Node) → (x.tree.now ≡ xs) × (x.at ≡ 0) → (y.tree.now ≡ ys) × (y.at ≡ 0)
+    → (r : Bool) → Says r (Alike (left (c + 1) x.at (subtree x)) (left (d + 1) y.at (subtree y)))
     → (t u : Tree) → Holds xs 0 t → Holds ys 0 u → Says r (canon (cut_in t c).rest ≡ canon (cut_in u d).rest)
-says-rest k k' r tells t u g h = subst₂ (λ (s v : Tree). Says r (Alike s v)) (rest-is k t g) (rest-is k' u h) (tells t u g h)
+says-rest k k' x y new new' r told t u g h = subst₂ (λ (s v : Tree). Says r (Alike s v)) (rest-is k x new t g) (rest-is k' y new' u h) told
 
 -- the clade that a cut takes away stands at its node
 module _ {xs m : List ℕ} {p : ℕ} (k : CutAt xs m p) where

@@ -1,9 +1,9 @@
--- What is left of a held tree without one of its nodes, and the way down to that node.
+-- What is left of a tree without one of its nodes, and the way down to that node.
 -- Assumes nothing.
-use Rattle.std.specs.Prelude.{◌≡◌, cond, List, ℕ, ◌+◌, ◌<◌, eqb}
+use Rattle.std.specs.Prelude.{◌≡◌, cond, ℕ, ◌+◌, ◌<◌, eqb}
 use Rattle.meaning.specs.Tree.{Tree, leaf, fork, canon}
 use Rattle.meaning.specs.Interchange.{Forks}
-use Rattle.held.specs.Held.{nodes, Holds}
+use Rattle.held.specs.Held.{nodes}
 use Rattle.pairs.specs.Ordered.{InOrder}
 
 -- what is left of the tree that stands at k without the node p; a fork that loses a child is closed up
@@ -20,20 +20,14 @@ pub record Below (p k : ℕ) (t : Tree) : Type 0 where
   pub above : k < p
   pub inside : p < k + nodes t
 
--- xs holds a tree in order at k, below which p stands
-pub record Cutting (xs : List ℕ) (k p : ℕ) : Type 0 where
-  pub tree : Tree
-  pub holds : Holds xs k tree
-  pub in_order : InOrder tree
-  pub below : Below p k tree
+-- t, which stands at k, is in order, and the node p stands below it
+pub record Cutting (p k : ℕ) (t : Tree) : Type 0 where
+  pub in_order : InOrder t
+  pub below : Below p k t
 
--- of t's children, where t stands at k, the one at `on` leads to p: it is p, or p stands below it; the one at `off` does not
-pub record Leads (xs : List ℕ) (k p on off : ℕ) (t : Tree) : Type 0 where
-  pub taken : Tree
-  pub other : Tree
-  pub children : Forks taken other t
-  pub holds_taken : Holds xs on taken
-  pub holds_other : Holds xs off other
-  pub further : k < on
-  pub here : p ≡ on → left p k t ≡ other
-  pub deeper : ¬ (p ≡ on) → Below p on taken × Forks (left p on taken) other (left p k t)
+-- of t's children, where t stands at k, that which stands at i, `on`, leads to p: it is p, or p stands below it; `off` does not
+pub record Leads (p k : ℕ) (t : Tree) (i : ℕ) (on off : Tree) : Type 0 where
+  pub children : Forks on off t
+  pub further : k < i
+  pub here : p ≡ i → left p k t ≡ off
+  pub deeper : ¬ (p ≡ i) → Below p i on × Forks (left p i on) off (left p k t)

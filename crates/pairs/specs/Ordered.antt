@@ -10,13 +10,7 @@ pub record InOrder (t : Tree) : Type 0 where
   pub distinct : Distinct t
   pub canonical : Canonical t
 
--- the bytes xs hold such a tree at the node k
-pub record OrderedAt (xs : List ℕ) (k : ℕ) : Type 0 where
-  pub tree : Tree
-  pub holds : Holds xs k tree
-  pub in_order : InOrder tree
-
--- they hold one from the start on, and are as many as a tree can have nodes
+-- the bytes xs hold such a tree from the start on, and are as many as a tree can have nodes
 pub record HeldInOrder (xs : List ℕ) : Type 0 where
   pub tree : Tree
   pub holds : Holds xs 0 tree

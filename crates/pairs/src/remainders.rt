@@ -1,90 +1,83 @@
 // What two trees leave without one node each, compared where it stands. Both trees are walked down to the nodes that are left
 // out; what hangs off the way is whole, and in canonical order, so its bytes can be compared.
-ghost use Rattle.meaning.specs.Tree.{Tree as Topology};
 ghost use Rattle.lent.specs.Runs.{Says};
-ghost use Rattle.held.specs.Held.{Holds};
-ghost use Rattle.pairs.specs.Ordered.{OrderedAt};
+ghost use Rattle.held.specs.Node.{subtree};
+ghost use Rattle.pairs.specs.Ordered.{InOrder};
 ghost use Rattle.pairs.specs.Left.{left, Alike, Cutting, Leads};
 
-use super::{same_subtree, second_child};
-use held::Tree;
+use super::{other_child, same_subtree};
+use held::{Node, Shape};
 
 // The child of a fork that leads to a node, and the other child.
-#[derive(Drop)]
-struct Way {
-    on: usize,
-    off: usize,
+#[derive(Clone, Copy)]
+struct Way<'a> {
+    on: Node<'a>,
+    off: Node<'a>,
 }
 
-// The way from k to the node p below it.
-fn way_to(n: &[u8], k: usize, p: usize) -> Way
-    requires { Cutting n.now k p }
-    ensures { (t : Topology) → Holds n.now k t → Leads n.now k p result.on result.off t }
+// The way from a fork to the node p below it.
+// A node and the place p below it stay two: p stays while the node goes down, and a pair would be made anew at each step.
+fn way_to<'a>(node: Node<'a>, p: usize) -> Way<'a>
+    requires { Cutting p node.at (subtree node) }
+    ensures { Leads p node.entry.at (subtree node.entry) result.on.at (subtree result.on) (subtree result.off) }
 {
-    let second = second_child(n, k);
-    let leads = p < second;
+    let Shape::Fork(first, second) = node.shape() else {
+        unreachable!()
+    };
+    let leads = p < second.at;
     if leads {
         Way {
-            on: k + 1,
+            on: first,
             off: second,
         }
     } else {
         Way {
             on: second,
-            off: k + 1,
+            off: first,
         }
     }
 }
 
-// Whether the subtree of x at i is what is left of that of y at k without p: what hangs off the way has to be a child of it, and
-// what is left further down the other child.
-fn is_left(x: &[u8], i: usize, y: &[u8], k: usize, p: usize) -> bool
-    requires { OrderedAt x.now i × Cutting y.now k p }
-    ensures { (s t : Topology) → Holds x.now i s → Holds y.now k t → Says result (Alike s (left p k t)) }
+// Whether the subtree of x is what is left of that of y without p: what hangs off the way has to be a child of it, and what is
+// left further down the other child.
+fn is_left(x: Node, y: Node, p: usize) -> bool
+    requires { InOrder (subtree x) × Cutting p y.at (subtree y) }
+    ensures { Says result (Alike (subtree x.entry) (left p y.entry.at (subtree y.entry))) }
 {
-    let mut node = i;
-    let mut next = way_to(y, k, p);
-    while next.on != p {
-        if x[node] <= Tree::FORK {
+    let mut node = x;
+    let mut next = way_to(y, p);
+    // No count: the walk goes from a fork of y to the child that leads to p.
+    while next.on.at != p {
+        let Some(other) = other_child(node, next.off) else {
             return false;
-        }
-        let second = second_child(x, node);
-        if same_subtree(x, node + 1, y, next.off) {
-            node = second;
-        } else if same_subtree(x, second, y, next.off) {
-            node += 1;
-        } else {
-            return false;
-        }
-        next = way_to(y, next.on, p);
+        };
+        node = other;
+        next = way_to(next.on, p);
     }
-    same_subtree(x, node, y, next.off)
+    same_subtree(node, next.off)
 }
 
-// Whether what is left of the subtree of x at i without p is what is left of that of y at j without q. As long as the same hangs
-// off both ways, they are followed; where it differs, each has to be what is left further down the other.
-pub fn same_left(x: &[u8], i: usize, p: usize, y: &[u8], j: usize, q: usize) -> bool
-    requires { Cutting x.now i p × Cutting y.now j q }
-    ensures { (t u : Topology) → Holds x.now i t → Holds y.now j u
-        → Says result (Alike (left p i t) (left q j u)) }
+/// Whether what is left of the subtree of x without p is what is left of that of y without q. As long as the same hangs off both
+/// ways, they are followed; where it differs, each has to be what is left further down the other.
+pub fn same_left(x: Node, p: usize, y: Node, q: usize) -> bool
+    requires { Cutting p x.at (subtree x) × Cutting q y.at (subtree y) }
+    ensures { Says result (Alike (left p x.entry.at (subtree x.entry)) (left q y.entry.at (subtree y.entry))) }
 {
-    let mut k = i;
-    let mut l = j;
-    let mut a = way_to(x, k, p);
-    while a.on != p {
-        let b = way_to(y, l, q);
-        if b.on == q {
-            return is_left(y, b.off, x, k, p);
+    let mut one = x;
+    let mut two = y;
+    let mut a = way_to(one, p);
+    // No count: the walk goes from a fork to the child that leads to p.
+    while a.on.at != p {
+        let b = way_to(two, q);
+        if b.on.at == q {
+            return is_left(b.off, one, p);
         }
-        if !same_subtree(x, a.off, y, b.off) {
-            if !is_left(x, a.off, y, b.on, q) {
-                return false;
-            }
-            return is_left(y, b.off, x, a.on, p);
+        if !same_subtree(a.off, b.off) {
+            return is_left(a.off, b.on, q) && is_left(b.off, a.on, p);
         }
-        k = a.on;
-        l = b.on;
-        a = way_to(x, k, p);
+        one = a.on;
+        two = b.on;
+        a = way_to(one, p);
     }
-    is_left(x, a.off, y, l, q)
+    is_left(a.off, two, q)
 }

@@ -5,12 +5,13 @@ use mathlib.Core.List.{List}
 use Prim.Native.Nat.{ℕ}
 use lib.Ieee.{Float}
 use Rattle.meaning.specs.Answer.{Outcome}
-use Rattle.calls.specs.declared.TextAnswer.{TextAnswer}
+use Rattle.std.specs.Prelude.{Result}
+use Rattle.tokens.specs.declared.Refusal.{Refusal}
 use Rattle.calls.proofs.Determined.{text-one}
 use Rattle.plots.specs.PlotCall.{PlotMemory, plot_call}
 use Rattle.plot_calls.specs.Paper.{plot_outcome}
 
-pub plot-call-determined : (s : List ℕ) (memory : PlotMemory) {r r' : TextAnswer} {rs rs' : List Float} {cs cs' : List ℕ}
+pub plot-call-determined : (s : List ℕ) (memory : PlotMemory) {r r' : Result ℕ Refusal} {rs rs' : List Float} {cs cs' : List ℕ}
     → plot_outcome r rs cs ≡ plot_call s memory → plot_outcome r' rs' cs' ≡ plot_call s memory → (r ≡ r') × (rs ≡ rs') × (cs ≡ cs')
 plot-call-determined s memory {r} {r'} e f =
     let h = e ∙ sym f in (

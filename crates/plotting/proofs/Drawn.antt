@@ -11,7 +11,7 @@ use Rattle.meaning.specs.Tree.{Tree, leaf, fork, leaves}
 use Rattle.lent.specs.Runs.{Wrote}
 use Rattle.lent.proofs.Runs.{head-is, head_in, next-is, drop-run, starts_with}
 use Rattle.held.specs.Held.{Holds, nodes}
-use Rattle.held.proofs.Laws.{twice, children, ForkAt, leafed}
+use Rattle.held.proofs.Laws.{twice, children}
 use Rattle.plots.specs.Plot.{row, rows, tip, joint, drawn, NodeAt, here, first, second}
 use Rattle.plotting.specs.Placing.{rows_from}
 use Rattle.plotting.specs.Drawing.{RowsAt, Drawable}
@@ -49,31 +49,31 @@ module _ {rs : List Float} {k c i : ℕ} {a b : Tree} (r : RowsAt rs k c i (fork
       record { stands = (r.stands.0, ap (λ (j : ℕ). drop (k + 1 + j) rs) (sym (order-nodes (λ c i s. row i s) (c + 1) i a)) ∙ drop-run rs (k + 1) xs (ys ++ r.stands.0) rows_next) }
 
 -- a leaf is drawn as a tip
-pub drawn-leaf : {xs : List ℕ} {rs : List Float} {k c i : ℕ} {t : Tree} → Holds xs k t → get_or xs k 0 ≤ 64 → RowsAt rs k c i t → tip (get_or rs k nan) ≡ drawn i t
-drawn-leaf {xs} {rs} {k} {i} {t} h small r =
-    let e = leafed h small in
-    ap tip (row_at r ∙ ap (row i) e) ∙ sym (ap (drawn i) e)
+pub drawn-leaf : {rs : List Float} {k c i l : ℕ} {t : Tree} → t ≡ leaf l → RowsAt rs k c i t → tip (get_or rs k nan) ≡ drawn i t
+drawn-leaf {i} e r = ap tip (row_at r ∙ ap (row i) e) ∙ sym (ap (drawn i) e)
 
--- a fork with its children; w is the width of the first
-module _ {xs : List ℕ} {rs : List Float} {k c i : ℕ} {t : Tree} (f : ForkAt xs k t) (r : RowsAt rs k c i t) where
-  rows_both : RowsAt rs k c i (fork f.first f.second)
-  rows_both = subst (RowsAt rs k c i) f.is r
+-- a fork with its children, which stand at p and q
+module _ {rs : List Float} {k p q c i : ℕ} {t a b : Tree} (e : t ≡ fork a b) (first-at : p ≡ k + 1) (second-at : q ≡ k + 1 + nodes a) (r : RowsAt rs k c i t) where
+  rows_both : RowsAt rs k c i (fork a b)
+  rows_both = subst (RowsAt rs k c i) e r
 
-  pub first-inside : k + 1 < length rs
-  first-inside = row_inside (rows-of-first rows_both)
+  first-rows : RowsAt rs p (c + 1) i a
+  first-rows = rw first-at (rows-of-first rows_both)
 
-  module _ (w : ℕ) (e : w ≡ nodes f.first) where
-    second-rows : RowsAt rs (k + 1 + w) (c + 1) (i + leaves f.first) f.second
-    second-rows = rw e (rows-of-second rows_both)
+  second-rows : RowsAt rs q (c + 1) (i + leaves a) b
+  second-rows = rw second-at (rows-of-second rows_both)
 
-    pub second-inside : k + 1 + w < length rs
-    second-inside = row_inside second-rows
+  pub first-inside : p < length rs
+  first-inside = row_inside first-rows
 
-    pub drawn-fork : joint (get_or rs k nan) (get_or rs (k + 1) nan) (get_or rs (k + 1 + w) nan) ≡ drawn i t
-    drawn-fork =
-        ap (λ (x : Float). joint x (get_or rs (k + 1) nan) (get_or rs (k + 1 + w) nan)) (row_at rows_both)
-        ∙ ap₂ (joint (row i (fork f.first f.second))) (row_at (rows-of-first rows_both)) (row_at second-rows)
-        ∙ sym (ap (drawn i) f.is)
+  pub second-inside : q < length rs
+  second-inside = row_inside second-rows
+
+  pub drawn-fork : joint (get_or rs k nan) (get_or rs p nan) (get_or rs q nan) ≡ drawn i t
+  drawn-fork =
+      ap (λ (x : Float). joint x (get_or rs p nan) (get_or rs q nan)) (row_at rows_both)
+      ∙ ap₂ (joint (row i (fork a b))) (row_at first-rows) (row_at second-rows)
+      ∙ sym (ap (drawn i) e)
 
 -- ---- so every node of a tree whose rows stand can be drawn
 moved : {xs : List ℕ} {rs : List Float} {j : ℕ} (k : ℕ) → k ≡ j → Drawable xs rs k → Drawable xs rs j

@@ -5,7 +5,7 @@ use mathlib.Core.List.{List, ◌∷◌, ◌++◌}
 use Prim.Native.Nat.{ℕ, ◌+◌, ◌*◌, ◌^◌, ◌≤◌}
 use native.Mathlib.Omega.{arith}
 use native.Mathlib.Numerals.{add-one}
-use lib.ListN.{length, get_or, set}
+use lib.ListN.{length, set}
 use lib.Seq.{sets, length-sets}
 use lib.Ieee.{Float}
 use Rattle.meaning.specs.Limits.{max_label, max_nodes}
@@ -14,11 +14,8 @@ use Rattle.meaning.proofs.Canon.{canon-good}
 use Rattle.meaning.proofs.Length.{leaves-64}
 use Rattle.lent.specs.Runs.{Wrote}
 use Rattle.lent.proofs.Runs.{sets-append, set-sets}
-use Rattle.held.specs.Held.{Holds, nodes}
-use Rattle.held.specs.Kept.{Kept}
-use Rattle.held.specs.declared.Tree.{Tree as Record}
-use Rattle.held.proofs.Laws.{twice, few-nodes, ForkAt, leafed, each-is}
-use Rattle.held.proofs.Kept.{keeps-holds}
+use Rattle.held.specs.Held.{nodes}
+use Rattle.held.proofs.Laws.{twice, few-nodes}
 use Rattle.plots.specs.Plot.{whole, halfway, row, exact, nodes_in_order, columns, rows, height, Off}
 use Rattle.plots.proofs.Nodes.{order-length}
 use Rattle.plots.proofs.Rows.{row-off}
@@ -50,12 +47,11 @@ module _ {t : Tree} {k c i : ℕ} {rs rs' : List Float} {cs cs' : List ℕ} {x y
   columns-length = ap length p.columns_are ∙ length-sets cs k (columns_from c i t)
 
 -- ---- a leaf
-pub placed-leaf : {xs : List ℕ} {k c i : ℕ} {rs : List Float} {cs : List ℕ} {t : Tree} → Holds xs k t → get_or xs k 0 ≤ 64 → i + leaves t ≤ max_label
-    → (u : Tree) → Holds xs k u → Placed u k c i rs (set rs k (whole i)) cs (set cs k c) (whole c) (whole i)
-placed-leaf {xs} {k} {c} {i} {rs} {cs} {t} h small few =
-    let is = leafed h small in
-    each-is (λ (u : Tree). Placed u k c i rs (set rs k (whole i)) cs (set cs k c) (whole c) (whole i)) h is
-    (record { column-is = refl; row_is = refl; off = row-off (leaf (get_or xs k 0)) i (subst (λ (u : Tree). i + leaves u ≤ max_label) is few); rows_are = refl; columns_are = refl })
+pub placed-leaf : {k c i l : ℕ} {rs : List Float} {cs : List ℕ} {t : Tree} → t ≡ leaf l → i + leaves t ≤ max_label
+    → Placed t k c i rs (set rs k (whole i)) cs (set cs k c) (whole c) (whole i)
+placed-leaf {i} {l} e few =
+    rw e
+    (record { column-is = refl; row_is = refl; off = row-off (leaf l) i (subst (λ (u : Tree). i + leaves u ≤ max_label) e few); rows_are = refl; columns_are = refl })
 
 -- ---- a fork
 placed-both : (a b : Tree) {k c i : ℕ} {rs rs₁ rs₂ : List Float} {cs cs₁ cs₂ : List ℕ} {x x' y y' : Float} → i + leaves (fork a b) ≤ max_label
@@ -77,29 +73,25 @@ placed-both a b {k} {c} {i} {rs} {rs₂} {cs} {x} {y} few p q =
       columns_are = cell-first cs k c (zs ++ ws) (both_runs (set cs k c) (k + 1) zs ws (order-nodes (λ c i s. c) (c + 1) i a) p.columns_are q.columns_are);
     }
 
-pub placed-fork : {xs : List ℕ} {k c i w m : ℕ} {t : Tree} (f : ForkAt xs k t) {rs rs₁ rs₂ : List Float} {cs cs₁ cs₂ : List ℕ} {x x' y y' z : Float}
-    → w ≡ nodes f.first → m ≡ i + leaves f.first → i + leaves t ≤ max_label
-    → Placed f.first (k + 1) (c + 1) i rs rs₁ (set cs k c) cs₁ x' x → Placed f.second (k + 1 + w) (c + 1) m rs₁ rs₂ cs₁ cs₂ y' y → z ≡ halfway x y
-    → (u : Tree) → Holds xs k u → Placed u k c i rs (set rs₂ k z) cs cs₂ (whole c) z
-placed-fork {k} {c} {i} f {rs} {rs₂} {cs} {cs₂} {z} e g few p q n =
-    each-is (λ (u : Tree). Placed u k c i rs (set rs₂ k z) cs cs₂ (whole c) z) f.whole f.is
-    (rw n (placed-both f.first f.second (subst (λ (u : Tree). i + leaves u ≤ max_label) f.is few) p (rw g at (rw e at q))))
+pub placed-fork : {k p q c i m : ℕ} {t a b : Tree} {rs rs₁ rs₂ : List Float} {cs cs₁ cs₂ : List ℕ} {x x' y y' z : Float}
+    → t ≡ fork a b → p ≡ k + 1 → q ≡ k + 1 + nodes a → m ≡ i + leaves a → i + leaves t ≤ max_label
+    → Placed a p (c + 1) i rs rs₁ (set cs k c) cs₁ x' x → Placed b q (c + 1) m rs₁ rs₂ cs₁ cs₂ y' y → z ≡ halfway x y
+    → Placed t k c i rs (set rs₂ k z) cs cs₂ (whole c) z
+placed-fork {i} {a} {b} e first second middle few P Q n =
+    rw (e, n) (placed-both a b (subst (λ (u : Tree). i + leaves u ≤ max_label) e few) (rw first at P) (rw (second, middle) at Q))
 
 -- ---- the walk from the root of a kept tree
 few : {t : Tree} → Good t → 0 + leaves (canon t) ≤ max_label
 few G = omega (arith, leaves-64 (canon-good G))
 
-pub root-space : {tree : Record} {m n : ℕ} → Kept tree × (max_nodes ≤ m) × (max_nodes ≤ n) → Space tree.node 0 0 0 m n
-root-space (kept, p, q) =
-    let k = kept.keeps in
-    let n = few-nodes (canon-good k.good) in
+pub root-space : {t : Tree} {m n : ℕ} → Good t → max_nodes ≤ m → max_nodes ≤ n → Space (canon t) 0 0 0 m n
+root-space G p q =
+    let n = few-nodes (canon-good G) in
     record {
-      tree = canon kept.topology;
-      holds = keeps-holds k;
       rows_room = omega (arith, n, p);
       columns_room = omega (arith, n, q);
-      above = few k.good;
-      before = few k.good;
+      above = few G;
+      before = few G;
     }
 
 pub plotted : (t : Tree) {rs rs' : List Float} {cs cs' : List ℕ} {x y : Float} {r : ℕ} → Placed (canon t) 0 0 0 rs rs' cs cs' x y → r ≡ nodes (canon t)

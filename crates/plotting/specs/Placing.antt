@@ -4,7 +4,7 @@ use Rattle.std.specs.Prelude.{◌≡◌, List, ℕ, ◌+◌, ◌*◌, ◌^◌, �
 use Rattle.std.proofs.lemmas.List.Edits.{sets}
 use Rattle.meaning.specs.Limits.{max_label}
 use Rattle.meaning.specs.Tree.{Tree, leaves}
-use Rattle.held.specs.Held.{Holds, nodes}
+use Rattle.held.specs.Held.{nodes}
 use Rattle.plots.specs.Plot.{whole, row, exact, nodes_in_order, height, Off}
 
 -- the rows of a subtree's nodes, with c forks above it and i leaves before it
@@ -15,10 +15,8 @@ rows_from c i t = nodes_in_order (λ c i s. row i s) c i t
 abbrev pub columns_from : ℕ → ℕ → Tree → List ℕ
 columns_from c i t = nodes_in_order (λ c i s. c) c i t
 
--- xs holds a tree from the node k on, with c forks above it and i leaves before it; there is room for its rows and columns
-pub record Space (xs : List ℕ) (k c i rows-len columns-len : ℕ) : Type 0 where
-  pub tree : Tree
-  pub holds : Holds xs k tree
+-- the tree at the node k, with c forks above it and i leaves before it, has room for its rows and columns
+pub record Space (tree : Tree) (k c i rows-len columns-len : ℕ) : Type 0 where
   pub rows_room : k + nodes tree ≤ rows-len
   pub columns_room : k + nodes tree ≤ columns-len
   pub above : c + leaves tree ≤ max_label

@@ -81,11 +81,9 @@ module _ {xs m f : List ℕ} (P : Printed xs m f) where
   left-fits : (p : ℕ) → print (left p 0 t) ≤ max_print
   left-fits p = print-fits (left-good p 0 P.whole.good)
 
-  pub rest-room : RestRoom xs m f zeros 0
+  pub rest-room : RestRoom t xs m f zeros 0
   rest-room =
       record {
-        tree = t;
-        holds = h;
         room = omega (arith, few-nodes P.whole.good);
         clades = λ p u l. P.clades t h p u (omega arith);
         prints = λ p u l. P.prints t h p u (omega arith);
@@ -94,9 +92,9 @@ module _ {xs m f : List ℕ} (P : Printed xs m f) where
       }
 
   -- and `rest` has the prints of what is left without them
-  module _ {rest : List ℕ} (noted : (t : Tree) → Holds xs 0 t → RestNoted t 0 zeros rest) where
+  module _ {rest : List ℕ} (noted : RestNoted t 0 zeros rest) where
     rest-is : (p : ℕ) → 0 < p → p < nodes t → get_or rest p 0 ≡ print (left p 0 t)
-    rest-is p u l = omega (arith, (noted t h).own p u (omega arith), zero-at p l)
+    rest-is p u l = omega (arith, noted.own p u (omega arith), zero-at p l)
 
     pub key_fits : (p : ℕ) → 0 < p → p < nodes t → get_or f p 0 + get_or rest p 0 < 18446744073709551616
     key_fits p u l =

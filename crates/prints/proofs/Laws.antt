@@ -7,34 +7,28 @@ use native.Mathlib.Decide.{ℕ_discrete}
 use native.Mathlib.Omega.{arith}
 use lib.ListN.{length, get_or, set, length-set}
 use lib.Seq.{get_or-set_same, get_or-set_other}
-use Rattle.meaning.specs.Limits.{max_label}
-use Rattle.meaning.specs.Tree.{Tree, fork}
 use Rattle.meaning.specs.Clade.{clade}
-use Rattle.held.specs.Held.{nodes, Holds}
-use Rattle.held.proofs.Laws.{leafed, unique, second_at}
+use Rattle.held.specs.Node.{subtree, Children}
+use Rattle.held.specs.declared.node.Node.{Node}
+use Rattle.held.proofs.Laws.{some-nodes}
+use Rattle.held.proofs.Subtree.{at-node}
 use Rattle.clades.specs.Marks.{Marks}
-use Rattle.clades.proofs.Laws.{Sub, fork-of, behind}
+use Rattle.clades.proofs.Laws.{Sub, first-is, second_is}
 use Rattle.prints.specs.Print.{max_print, spread, print}
 use Rattle.prints.specs.Rest.{Added, share, PassRoom, Passed}
 use Rattle.prints.proofs.Print.{print-fits}
 
--- ---- the print of a leaf, and that of a fork whose children are marked
-pub leaf-print : (xs : List ℕ) (k : ℕ) → get_or xs k 0 ≤ max_label → (t : Tree) → Holds xs k t → 0 ≡ print t
-leaf-print xs k small t h = sym (ap print (leafed h small))
-
-module _ {xs : List ℕ} {k end : ℕ} (s : Sub xs k end) (large : max_label < get_or xs k 0) (w : ℕ) (e : w ≡ nodes (fork-of s large).first) where
+-- ---- the print of a fork whose children are marked; x is the node at k
+module _ {xs : List ℕ} {k end : ℕ} (s : Sub xs k end) (x : Node) (at : (x.tree.now ≡ xs) × (x.at ≡ k)) {a b : Node} (c : Children x a b) where
   module _ (m f : List ℕ) (clades : Marks clade xs m 0 end) (prints : Marks print xs f (k + 1) end) where
-    pub fork-print : (t : Tree) → Holds xs k t → spread (get_or m k 0) + (get_or f (k + 1) 0 + get_or f (k + 1 + w) 0) ≡ print t
-    fork-print t h =
-        let g = fork-of s large in
-        let a = prints (k + 1) (omega arith) (omega (arith, behind s large w e)) g.first g.holds-first in
-        let b = prints (k + 1 + w) (omega arith) (behind s large w e) g.second (second_at g w e) in
-        let is : t ≡ fork g.first g.second = unique h s.holds ∙ g.is in
-        let c : get_or m k 0 ≡ clade t = clades k (omega arith) (omega (arith, behind s large w e)) t h in
-        ap₂ ◌+◌ (ap spread (c ∙ ap clade is)) (ap₂ ◌+◌ a b) ∙ sym (ap print is)
+    pub fork-print : spread (get_or m k 0) + (get_or f a.at 0 + get_or f b.at 0) ≡ print (subtree x)
+    fork-print =
+        let own : get_or m k 0 ≡ clade s.tree = clades k (omega arith) (omega (arith, s.inside, some-nodes s.tree)) s.tree s.holds in
+        let is = sym (at-node x at s.holds) ∙ c.is in
+        ap₂ ◌+◌ (ap spread (own ∙ ap clade is)) (ap₂ ◌+◌ (first-is s x at c print f prints) (second_is s x at c print f prints)) ∙ sym (ap print c.is)
 
-    pub fork-print-fits : spread (get_or m k 0) + (get_or f (k + 1) 0 + get_or f (k + 1 + w) 0) ≤ max_print
-    fork-print-fits = omega (arith, fork-print s.tree s.holds, print-fits s.good)
+    pub fork-print-fits : spread (get_or m k 0) + (get_or f a.at 0 + get_or f b.at 0) ≤ max_print
+    fork-print-fits = omega (arith, fork-print, ap print (at-node x at s.holds), print-fits s.good)
 
 -- ---- one number more
 module _ (g : ℕ → ℕ) {from p : ℕ} {rest rest' : List ℕ} (A : Added g from p rest rest')

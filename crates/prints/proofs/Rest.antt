@@ -6,12 +6,14 @@ use Prim.Native.Nat.{ℕ, ◌+◌, ◌-◌, ◌≤◌, ◌<◌}
 use native.Mathlib.Decide.{ℕ_discrete, dec_lt}
 use native.Mathlib.Omega.{arith}
 use lib.ListN.{length, get_or}
-use Rattle.meaning.specs.Limits.{max_label}
-use Rattle.meaning.specs.Tree.{Tree, fork}
+use Rattle.meaning.specs.Tree.{Tree, leaf, fork}
 use Rattle.meaning.specs.Move.{Prune, first, second, in_first, in_second, cuts}
 use Rattle.meaning.specs.Clade.{clade}
 use Rattle.held.specs.Held.{nodes, Holds, cut_in}
-use Rattle.held.proofs.Laws.{some-nodes, ForkAt, fork-nodes, leafed, each, second_at}
+use Rattle.held.specs.Node.{subtree, Children}
+use Rattle.held.specs.declared.node.Node.{Node}
+use Rattle.held.proofs.Laws.{some-nodes}
+use Rattle.held.proofs.Subtree.{node-holds}
 use Rattle.held.proofs.Cut.{cuts-nodes, cut-is, cut_stands}
 use Rattle.clades.specs.Marks.{Marks}
 use Rattle.pairs.specs.Left.{left}
@@ -43,87 +45,101 @@ left-clade m {k} {t} h marks p f l =
     omega (arith, prune-clade (cut-is t c lt), marks p (omega arith) l (cut_in t c).pruned (pruned-at h p c e lt), ap clade (left_at h p c e lt))
 
 -- ---- a leaf has no node below it
-pub leaf-rest : {xs : List ℕ} {k : ℕ} (rest : List ℕ) → get_or xs k 0 ≤ max_label → (t : Tree) → Holds xs k t → RestNoted t k rest rest
-leaf-rest {k} rest small t h = rw (leafed h small) (record { own = λ p f l. absurd (omega arith); others = λ p out. refl; long = refl })
+pub leaf-rest : {k l : ℕ} {t : Tree} (rest : List ℕ) → t ≡ leaf l → RestNoted t k rest rest
+leaf-rest rest e = rw e (record { own = λ p f l. absurd (omega arith); others = λ p out. refl; long = refl })
 
--- ---- a fork; w is the width of its first child and v that of its second, as `width` says
-pub record RestFork (xs m f rest : List ℕ) (k w v : ℕ) : Type 0 where
-  pub asked : RestRoom xs m f rest k
-  pub fork : ForkAt xs k asked.tree
-  pub first_width : w ≡ nodes fork.first
-  pub second_width : v ≡ nodes fork.second
+-- ---- the same tree in the same bytes
+pub room-at : {t u : Tree} {xs ys m f rest : List ℕ} {k n : ℕ} → u ≡ t → ys ≡ xs → n ≡ k → RestRoom t xs m f rest k → RestRoom u ys m f rest n
+room-at e same at r = rw (e, same, at) r
 
-module _ {xs m f rest : List ℕ} {k w v : ℕ} (F : RestFork xs m f rest k w v) where
-  abbrev R : RestRoom xs m f rest k
+-- ---- a fork of a and b, which stand at i and j; v is the width of the second
+pub record RestFork (xs m f rest : List ℕ) (t a b : Tree) (k i j v : ℕ) : Type 0 where
+  pub asked : RestRoom t xs m f rest k
+  pub is : t ≡ fork a b
+  pub first-at : i ≡ k + 1
+  pub second-at : j ≡ k + 1 + nodes a
+  pub second_width : v ≡ nodes b
+  pub holds : Holds xs k t
+  pub holds-first : Holds xs i a
+  pub holds-second : Holds xs j b
+
+-- as a node shows it
+pub rest-fork : {m f rest : List ℕ} {x y z : Node} {v : ℕ} → Children x y z → v ≡ nodes (subtree z) → RestRoom (subtree x) x.tree.now m f rest x.at
+    → RestFork x.tree.now m f rest (subtree x) (subtree y) (subtree z) x.at y.at z.at v
+rest-fork {x} {y} {z} c e r =
+    record {
+      asked = r;
+      is = c.is;
+      first-at = c.first_at;
+      second-at = c.second_at;
+      second_width = e;
+      holds = node-holds x;
+      holds-first = subst (λ (xs : List ℕ). Holds xs y.at (subtree y)) c.first_in (node-holds y);
+      holds-second = subst (λ (xs : List ℕ). Holds xs z.at (subtree z)) c.second_in (node-holds z);
+    }
+
+module _ {xs m f rest : List ℕ} {t a b : Tree} {k i j v : ℕ} (F : RestFork xs m f rest t a b k i j v) where
+  abbrev R : RestRoom t xs m f rest k
   R = F.asked
 
-  abbrev t : Tree
-  t = R.tree
-
-  abbrev a : Tree
-  a = F.fork.first
-
-  abbrev b : Tree
-  b = F.fork.second
-
-  all-nodes : nodes t ≡ 1 + w + v
-  all-nodes = omega (arith, fork-nodes F.fork, F.first_width, F.second_width)
+  all-nodes : nodes t ≡ 1 + nodes a + v
+  all-nodes = omega (arith, ap nodes F.is, F.second_width)
 
   whole_is : get_or m k 0 ≡ clade t
-  whole_is = R.clades k (omega arith) (omega (arith, some-nodes t)) t R.holds
+  whole_is = R.clades k (omega arith) (omega (arith, some-nodes t)) t F.holds
 
   -- the clade of what is left without the node p
   clade-is : (p : ℕ) → k < p → p < k + nodes t → get_or m k 0 ≡ get_or m p 0 + clade (left p k t)
-  clade-is p u l = whole_is ∙ left-clade m R.holds R.clades p u l
+  clade-is p u l = whole_is ∙ left-clade m F.holds R.clades p u l
 
   left-whole : (p : ℕ) → left p k t ≡ left p k (fork a b)
-  left-whole p = ap (left p k) F.fork.is
+  left-whole p = ap (left p k) F.is
 
-  print-a : get_or f (k + 1) 0 ≡ print a
-  print-a = R.prints (k + 1) (omega arith) (omega (arith, all-nodes, some-nodes a)) a F.fork.holds-first
+  print-a : get_or f i 0 ≡ print a
+  print-a = R.prints i (omega arith) (omega (arith, all-nodes, some-nodes a)) a F.holds-first
 
-  print-b : get_or f (k + 1 + w) 0 ≡ print b
-  print-b = R.prints (k + 1 + w) (omega arith) (omega (arith, all-nodes, some-nodes b)) b (second_at F.fork w F.first_width)
+  print-b : get_or f j 0 ≡ print b
+  print-b = R.prints j (omega arith) (omega (arith, all-nodes, some-nodes b)) b F.holds-second
 
   -- what is left without each node: the other child, or a fork again
-  without-first : print (left (k + 1) k t) ≡ get_or f (k + 1 + w) 0
-  without-first = ap print (left-whole (k + 1) ∙ left-first (k + 1) k a b refl) ∙ sym print-b
+  without-first : print (left i k t) ≡ get_or f j 0
+  without-first = ap print (left-whole i ∙ left-first i k a b F.first-at) ∙ sym print-b
 
-  without-second : print (left (k + 1 + w) k t) ≡ get_or f (k + 1) 0
-  without-second = ap print (left-whole (k + 1 + w) ∙ left-second (k + 1 + w) k a b (omega arith)) ∙ sym print-a
+  without-second : print (left j k t) ≡ get_or f i 0
+  without-second = ap print (left-whole j ∙ left-second j k a b (omega arith)) ∙ sym print-a
 
   open-print : (p : ℕ) → k < p → p < k + nodes t → spread (clade (left p k t)) ≡ spread (get_or m k 0 - get_or m p 0)
   open-print p u l = let c : clade (left p k t) ≡ get_or m k 0 - get_or m p 0 = omega (arith, clade-is p u l) in ap spread c
 
-  below-first : (p : ℕ) → k + 1 < p → p < k + 1 + w → print (left p k t) ≡ share m (get_or m k 0) (get_or f (k + 1 + w) 0) p + print (left p (k + 1) a)
+  below-first : (p : ℕ) → i < p → p < j → print (left p k t) ≡ share m (get_or m k 0) (get_or f j 0) p + print (left p i a)
   below-first p u l =
-      let is : left p k t ≡ fork (left p (k + 1) a) b = left-whole p ∙ left-in-first p k a b u (omega arith) in
+      let is : left p k t ≡ fork (left p i a) b = left-whole p ∙ left-in-first p k a b (omega arith) (omega arith) ∙ ap (λ (n : ℕ). fork (left p n a) b) (sym F.first-at) in
       omega (arith, ap print is, sym (ap (λ (s : Tree). spread (clade s)) is), open-print p (omega arith) (omega (arith, all-nodes)), print-b)
 
-  below-second : (p : ℕ) → k + 1 + w < p → p < k + 1 + w + v → print (left p k t) ≡ share m (get_or m k 0) (get_or f (k + 1) 0) p + print (left p (k + 1 + w) b)
+  below-second : (p : ℕ) → j < p → p < j + v → print (left p k t) ≡ share m (get_or m k 0) (get_or f i 0) p + print (left p j b)
   below-second p u l =
-      let at : k + 1 + nodes a ≡ k + 1 + w = omega arith in
-      let is : left p k t ≡ fork a (left p (k + 1 + w) b) = left-whole p ∙ left-in-second p k a b (omega arith) ∙ ap (λ (j : ℕ). fork a (left p j b)) at in
+      let at : k + 1 + nodes a ≡ j = omega arith in
+      let is : left p k t ≡ fork a (left p j b) = left-whole p ∙ left-in-second p k a b (omega arith) ∙ ap (λ (j : ℕ). fork a (left p j b)) at in
       omega (arith, ap print is, sym (ap (λ (s : Tree). spread (clade s)) is), open-print p (omega arith) (omega (arith, all-nodes)), print-a)
 
   smaller : (p : ℕ) → k < p → p < k + nodes t → get_or m p 0 ≤ get_or m k 0
   smaller p u l = omega (arith, clade-is p u l)
 
   -- the first child's nodes get their share
-  pub pass-first : PassRoom m rest (get_or m k 0) (get_or f (k + 1 + w) 0) (k + 1) (k + 1 + w)
+  pub pass-first : PassRoom m rest (get_or m k 0) (get_or f j 0) i j
   pass-first =
       record {
         some = omega (arith, some-nodes a);
         room = omega (arith, all-nodes, R.room);
         long = R.long;
         smaller = λ p u l. smaller p (omega arith) (omega (arith, all-nodes));
-        child_fits = omega (arith, without-first, R.fits (k + 1) (omega arith) (omega (arith, all-nodes, some-nodes a)));
+        child_fits = omega (arith, without-first, R.fits i (omega arith) (omega (arith, all-nodes, some-nodes a)));
         below_fits = λ p u l. omega (arith, below-first p u l, R.fits p (omega arith) (omega (arith, all-nodes)));
       }
 
-  module _ {rest₁ : List ℕ} (P : Passed m rest rest₁ (get_or m k 0) (get_or f (k + 1 + w) 0) (k + 1) (k + 1 + w)) where
+  module _ {rest₁ : List ℕ} (P : Passed m rest rest₁ (get_or m k 0) (get_or f j 0) i j) where
     -- and then the second child's
-    pub pass-second : PassRoom m rest₁ (get_or m k 0) (get_or f (k + 1) 0) (k + 1 + w) (k + 1 + w + v)
+    pub pass-second : PassRoom m rest₁ (get_or m k 0) (get_or f i 0) j (j + v)
     pass-second =
         record {
           some = omega (arith, some-nodes b);
@@ -131,18 +147,16 @@ module _ {xs m f rest : List ℕ} {k w v : ℕ} (F : RestFork xs m f rest k w v)
           long = omega (arith, P.long, R.long);
           smaller = λ p u l. smaller p (omega arith) (omega (arith, all-nodes));
           child_fits =
-              let fits = R.fits (k + 1 + w) (omega arith) (omega (arith, all-nodes, some-nodes b)) in
-              omega (arith, without-second, P.others (k + 1 + w) (λ x y. omega arith));
+              let fits = R.fits j (omega arith) (omega (arith, all-nodes, some-nodes b)) in
+              omega (arith, without-second, P.others j (λ x y. omega arith));
           below_fits = λ p u l. omega (arith, below-second p u l, P.others p (λ x y. omega arith), R.fits p (omega arith) (omega (arith, all-nodes)));
         }
 
-    module _ {rest₂ : List ℕ} (Q : Passed m rest₁ rest₂ (get_or m k 0) (get_or f (k + 1) 0) (k + 1 + w) (k + 1 + w + v)) where
+    module _ {rest₂ : List ℕ} (Q : Passed m rest₁ rest₂ (get_or m k 0) (get_or f i 0) j (j + v)) where
       -- both children are walked over
-      pub room-first : RestRoom xs m f rest₂ (k + 1)
+      pub room-first : RestRoom a xs m f rest₂ i
       room-first =
           record {
-            tree = a;
-            holds = F.fork.holds-first;
             room = omega (arith, all-nodes, R.room);
             clades = λ p u l. R.clades p (omega arith) (omega (arith, all-nodes));
             prints = λ p u l. R.prints p (omega arith) (omega (arith, all-nodes));
@@ -156,12 +170,10 @@ module _ {xs m f rest : List ℕ} {k w v : ℕ} (F : RestFork xs m f rest k w v)
             );
           }
 
-      module _ {rest₃ : List ℕ} (A : RestNoted a (k + 1) rest₂ rest₃) where
-        pub room-second : RestRoom xs m f rest₃ (k + 1 + w)
+      module _ {rest₃ : List ℕ} (A : RestNoted a i rest₂ rest₃) where
+        pub room-second : RestRoom b xs m f rest₃ j
         room-second =
             record {
-              tree = b;
-              holds = second_at F.fork w F.first_width;
               room = omega (arith, all-nodes, R.room);
               clades = λ p u l. R.clades p (omega arith) (omega (arith, all-nodes));
               prints = λ p u l. R.prints p (omega arith) (omega (arith, all-nodes));
@@ -177,33 +189,33 @@ module _ {xs m f rest : List ℕ} {k w v : ℕ} (F : RestFork xs m f rest k w v)
             }
 
         -- so each node below the fork has got the print without it
-        module _ {rest₄ : List ℕ} (B : RestNoted b (k + 1 + w) rest₃ rest₄) where
+        module _ {rest₄ : List ℕ} (B : RestNoted b j rest₃ rest₄) where
           abbrev Got : ℕ → Type 0
           Got p = get_or rest₄ p 0 ≡ get_or rest p 0 + print (left p k t)
 
-          got-first : Got (k + 1)
+          got-first : Got i
           got-first =
               omega (
                 arith,
-                B.others (k + 1) (λ x y. omega arith),
-                A.others (k + 1) (λ x y. omega arith),
-                Q.others (k + 1) (λ x y. omega (arith, some-nodes a)),
+                B.others i (λ x y. omega arith),
+                A.others i (λ x y. omega arith),
+                Q.others i (λ x y. omega (arith, some-nodes a)),
                 P.child,
                 without-first,
               )
 
-          got-second : Got (k + 1 + w)
+          got-second : Got j
           got-second =
               omega (
                 arith,
-                B.others (k + 1 + w) (λ x y. omega arith),
-                A.others (k + 1 + w) (λ x y. omega arith),
+                B.others j (λ x y. omega arith),
+                A.others j (λ x y. omega arith),
                 Q.child,
-                P.others (k + 1 + w) (λ x y. omega arith),
+                P.others j (λ x y. omega arith),
                 without-second,
               )
 
-          got-below-first : (p : ℕ) → k + 1 < p → p < k + 1 + w → Got p
+          got-below-first : (p : ℕ) → i < p → p < j → Got p
           got-below-first p u l =
               omega (
                 arith,
@@ -214,7 +226,7 @@ module _ {xs m f rest : List ℕ} {k w v : ℕ} (F : RestFork xs m f rest k w v)
                 below-first p u l,
               )
 
-          got-below-second : (p : ℕ) → k + 1 + w < p → p < k + 1 + w + v → Got p
+          got-below-second : (p : ℕ) → j < p → p < j + v → Got p
           got-below-second p u l =
               omega (
                 arith,
@@ -235,17 +247,16 @@ module _ {xs m f rest : List ℕ} {k w v : ℕ} (F : RestFork xs m f rest k w v)
                 P.others p (λ x y. out (omega arith) (omega (arith, all-nodes))),
               )
 
-          got : (p : ℕ) → k < p → p < k + nodes t → Dec (p ≡ k + 1) → Dec (p ≡ k + 1 + w) → Dec (p < k + 1 + w) → Got p
+          got : (p : ℕ) → k < p → p < k + nodes t → Dec (p ≡ i) → Dec (p ≡ j) → Dec (p < j) → Got p
           got p u l (yes e) _ _ = subst Got (sym e) got-first
           got p u l (no n) (yes e) _ = subst Got (sym e) got-second
           got p u l (no n) (no n') (yes y) = got-below-first p (omega arith) y
           got p u l (no n) (no n') (no y) = got-below-second p (omega arith) (omega (arith, all-nodes))
 
-          pub fork-rest : (u : Tree) → Holds xs k u → RestNoted u k rest rest₄
+          pub fork-rest : RestNoted t k rest rest₄
           fork-rest =
-              each (λ u. RestNoted u k rest rest₄) R.holds
-              (record {
-                own = λ p u l. got p u l (ℕ_discrete p (k + 1)) (ℕ_discrete p (k + 1 + w)) (dec_lt p (k + 1 + w));
+              record {
+                own = λ p u l. got p u l (ℕ_discrete p i) (ℕ_discrete p j) (dec_lt p j);
                 others = others;
                 long = omega (arith, B.long, A.long, Q.long, P.long);
-              })
+              }

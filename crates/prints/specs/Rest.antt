@@ -4,7 +4,7 @@ use Rattle.std.specs.Prelude.{◌≡◌, List, ℕ, ◌+◌, ◌-◌, ◌≤◌,
 use Rattle.meaning.specs.Limits.{max_nodes}
 use Rattle.meaning.specs.Tree.{Tree}
 use Rattle.meaning.specs.Clade.{clade}
-use Rattle.held.specs.Held.{nodes, Holds}
+use Rattle.held.specs.Held.{nodes}
 use Rattle.clades.specs.Marks.{Marks}
 use Rattle.pairs.specs.Left.{left}
 use Rattle.prints.specs.Print.{max_print, spread, print}
@@ -35,10 +35,8 @@ pub record Passed (m rest rest' : List ℕ) (whole beside from to : ℕ) : Type 
   pub others : (p : ℕ) → (from ≤ p → p < to → ⊥) → get_or rest' p 0 ≡ get_or rest p 0
   pub long : length rest' ≡ length rest
 
--- xs holds a tree at k, m and f have the clades and the prints of its nodes, and what the nodes below k get fits
-pub record RestRoom (xs m f rest : List ℕ) (k : ℕ) : Type 0 where
-  pub tree : Tree
-  pub holds : Holds xs k tree
+-- m and f have the clades and the prints of the nodes of the tree at k, and what the nodes below k get fits
+pub record RestRoom (tree : Tree) (xs m f rest : List ℕ) (k : ℕ) : Type 0 where
   pub room : k + nodes tree ≤ max_nodes
   pub clades : Marks clade xs m k (k + nodes tree)
   pub prints : Marks print xs f k (k + nodes tree)

@@ -17,104 +17,70 @@ use Rattle.lent.proofs.Runs.{sets-start}
 use Rattle.held.specs.Held.{nodes, pre}
 use Rattle.held.specs.Labels.{labels_within}
 use Rattle.held.proofs.Laws.{length-pre, twice, some-nodes}
-use Rattle.tokens.specs.Draft.{draft_bytes, seen, Draft, Meets, token_at, TokenMeets}
-use Rattle.reading.specs.Opening.{TopMeets, Halves, HasHalves}
-use Rattle.tokens.specs.declared.Step.{Step}
-use Rattle.tokens.specs.declared.Refusal.{Refusal}
-use Rattle.tokens.specs.declared.Step.TheVariants.{Next, Refused}
+use Rattle.tokens.specs.Draft.{draft_bytes, seen, Draft, token_at}
+use Rattle.tokens.specs.Paper.{Accepts}
+use Rattle.reading.specs.Opening.{Halves, HasHalves, TopStands}
 use Rattle.tokens.proofs.Draft.{seen-open, draft-open, open-room, closed-by}
-use Rattle.reading.proofs.Fork.{next-draft, next-seen, next-in}
-use Rattle.tokens.proofs.Meet.{Accepted, Passed, token-then}
-use Rattle.tokens.proofs.Steps.{then-got, step-got, step-next, step-ends, step-passed}
+use Rattle.reading.proofs.Fork.{Noded, Passed, next-draft, next-seen, next-in}
+use Rattle.tokens.proofs.Meet.{token-then}
+use Rattle.tokens.proofs.Steps.{then-got}
 
--- ---- the top's first node was asked for
-module _ (s : List ℕ) (p : ℕ) {node node₁ : List ℕ} {marks marks₁ : List Bool} {r₁ : Step} (d : Draft node marks 0 63)
-    (m₁ : Meets (set node 0 0) node₁ marks₁ 1 (read_node 62 s p (seen (set node 0 0) 1)) r₁) where
-  pub length-first : length node₁ ≡ length node
-  length-first = m₁.same ∙ length-set node 0 0
-
+-- ---- the top's first node follows
+module _ (s : List ℕ) (p : ℕ) {node : List ℕ} {marks : List Bool} (d : Draft node marks 0 63) where
   abbrev seconds : Tree → ℕ → Read Tree
   seconds a p₂ = and_then (read_node 62 s p₂ (labels a)) (λ b p₃. third_at (read_node 62 s) s a b p₃)
 
-  abbrev rest : Tree → ℕ → Read Tree
-  rest a p₁ = token 44 s p₁ (seconds a)
-
-  three-is : three_at (read_node 62 s) s p ≡ and_then (read_node 62 s p (seen (set node 0 0) 1)) rest
+  pub three-is : three_at (read_node 62 s) s p ≡ and_then (read_node 62 s p (seen (set node 0 0) 1)) (λ a p₁. token 44 s p₁ (seconds a))
   unfolding three_at labels_within
   three-is = rw (seen-open d)
 
-  pub three-no-first : {x : Refusal} → r₁ ≡ Refused x → TopMeets node node₁ (three_at (read_node 62 s) s p) r₁
-  three-no-first e = record { step = rw three-is (step-ends rest m₁.step e); same = length-first }
-
   -- it was accepted
-  module _ {q k : ℕ} (e₁ : r₁ ≡ Next q k) where
-    first : Accepted (set node 0 0) node₁ marks₁ 1 (read_node 62 s p (seen (set node 0 0) 1)) q k
-    first = step-next m₁.step e₁
+  module _ {node₁ : List ℕ} {marks₁ : List Bool} {q k : ℕ} (A : Noded (read_node 62 s p (seen (set node 0 0) 1)) q (set node 0 0) node₁ marks₁ 1 k) where
+    pub three-first : three_at (read_node 62 s) s p ≡ and_then (token_at 44 s q) (λ u p₂. seconds A.value p₂)
+    three-first = three-is ∙ then-got (λ a p₁. token 44 s p₁ (seconds a)) A.is ∙ token-then 44 s q (seconds A.value)
 
-    three-first : three_at (read_node 62 s) s p ≡ and_then (token_at 44 s q) (λ u p₂. seconds first.value p₂)
-    three-first = three-is ∙ then-got rest first.is ∙ token-then 44 s q (seconds first.value)
+    first-seen : seen node₁ k ≡ labels A.value
+    unfolding labels_within
+    first-seen = next-seen s p (draft-open d) A ∙ ap (λ (l : List ℕ). l ++ labels A.value) (seen-open d)
 
-    pub three-no-comma : {r : Step} {x : Refusal} → TokenMeets k (token_at 44 s q) r → r ≡ Refused x → TopMeets node node₁ (three_at (read_node 62 s) s p) r
-    three-no-comma m e = record { step = rw three-first (step-ends (λ u p₂. seconds first.value p₂) m e); same = length-first }
+    -- the fork of the second node and a third is opened
+    half-draft : Draft node₁ marks₁ k 63
+    half-draft =
+        let D : Draft node₁ marks₁ k 62 = next-draft s p (draft-open d) A in
+        let n : length (seen node₁ k) ≡ leaves A.value = ap length first-seen ∙ labels_length A.value in
+        record { size = D.size; once = D.once; fits = omega (arith, n, A.keeps.count, twice A.value); marked = D.marked }
 
-    -- and so was the comma: the fork of the second node and a third is opened
-    module _ {q' k' : ℕ} (c : Passed k (token_at 44 s q) q' k') where
-      first-seen : seen node₁ k' ≡ labels first.value
-      unfolding labels_within
-      first-seen = rw c.count (next-seen s p (draft-open d) first ∙ ap (λ (l : List ℕ). l ++ labels first.value) (seen-open d))
+    pub half_in : k < length node₁
+    half_in = open-room half-draft
 
-      half-draft : Draft node₁ marks₁ k' 63
-      half-draft =
-          let D : Draft node₁ marks₁ k' 62 = rw c.count (next-draft s p (draft-open d) first) in
-          let n : length (seen node₁ k') ≡ leaves first.value = ap length first-seen ∙ labels_length first.value in
-          record { size = D.size; once = D.once; fits = omega (arith, n, first.count, c.count, twice first.value); marked = D.marked }
+    pub second-draft : Draft (set node₁ k 0) marks₁ (k + 1) 62
+    second-draft = draft-open half-draft
 
-      pub half_in : k' < length node₁
-      half_in = open-room half-draft
+    second-seen : seen (set node₁ k 0) (k + 1) ≡ labels A.value
+    second-seen = seen-open half-draft ∙ first-seen
 
-      pub second-draft : Draft (set node₁ k' 0) marks₁ (k' + 1) 62
-      second-draft = draft-open half-draft
+    -- the comma was accepted
+    module _ {q' : ℕ} (c : Passed (token_at 44 s q) q') where
+      pub three-second : three_at (read_node 62 s) s p ≡ and_then (read_node 62 s q' (seen (set node₁ k 0) (k + 1))) (λ b p₃. third_at (read_node 62 s) s A.value b p₃)
+      three-second = rw second-seen (three-first ∙ then-got (λ u p₂. seconds A.value p₂) c.is)
 
-      second-seen : seen (set node₁ k' 0) (k' + 1) ≡ labels first.value
-      second-seen = seen-open half-draft ∙ first-seen
+      -- and the second node
+      module _ {node₂ : List ℕ} {marks₂ : List Bool} {p₂ end : ℕ} (B : Noded (read_node 62 s q' (seen (set node₁ k 0) (k + 1))) p₂ (set node₁ k 0) node₂ marks₂ (k + 1) end) where
+        pub halves : Halves node₂ marks₂ k end A.value B.value
+        halves = record {
+          start = node;
+          cells = B.keeps.cells ∙ ap (λ (l : List ℕ). sets (set l k 0) (k + 1) (pre B.value)) A.keeps.cells;
+          middle = A.keeps.count;
+          behind = B.keeps.count;
+          told = next-seen s q' second-draft B ∙ ap (λ (l : List ℕ). l ++ labels B.value) second-seen;
+          draft = next-draft s q' second-draft B;
+        }
 
-      three-second : three_at (read_node 62 s) s p ≡ and_then (read_node 62 s q' (seen (set node₁ k' 0) (k' + 1))) (λ b p₃. third_at (read_node 62 s) s first.value b p₃)
-      three-second = rw second-seen (three-first ∙ then-got (λ u p₂. seconds first.value p₂) c.is)
+        pub has-halves : HasHalves node₂ marks₂ k end
+        has-halves = record { first = A.value; second = B.value; halves = halves }
 
-      -- the second node was asked for
-      module _ {node₂ : List ℕ} {marks₂ : List Bool} {r₂ : Step} (m₂ : Meets (set node₁ k' 0) node₂ marks₂ (k' + 1) (read_node 62 s q' (seen (set node₁ k' 0) (k' + 1))) r₂) where
-        length-second : length node₂ ≡ length node
-        length-second = m₂.same ∙ length-set node₁ k' 0 ∙ length-first
-
-        pub three-no-second : {x : Refusal} → r₂ ≡ Refused x → TopMeets node node₂ (three_at (read_node 62 s) s p) r₂
-        three-no-second e = record { step = rw three-second (step-ends (λ b p₃. third_at (read_node 62 s) s first.value b p₃) m₂.step e); same = length-second }
-
-        -- and accepted
-        module _ {p₂ end : ℕ} (e₂ : r₂ ≡ Next p₂ end) where
-          second : Accepted (set node₁ k' 0) node₂ marks₂ (k' + 1) (read_node 62 s q' (seen (set node₁ k' 0) (k' + 1))) p₂ end
-          second = step-next m₂.step e₂
-
-          halves : Halves node₂ marks₂ k' end first.value second.value
-          halves = record {
-            start = node;
-            cells = second.keeps.cells ∙ ap (λ (l : List ℕ). sets (set l k' 0) (k' + 1) (pre second.value)) first.keeps.cells;
-            middle = c.count ∙ first.count;
-            behind = second.count;
-            told = next-seen s q' second-draft second ∙ ap (λ (l : List ℕ). l ++ labels second.value) second-seen;
-            draft = next-draft s q' second-draft second;
-          }
-
-          pub has-halves : HasHalves node₂ marks₂ k' end
-          has-halves = record { first = first.value; second = second.value; halves = halves }
-
-          pub three-rest : {node₃ : List ℕ} {r : Step}
-              → ((a b : Tree) → Halves node₂ marks₂ k' end a b → TopMeets node₂ node₃ (third_at (read_node 62 s) s a b p₂) r) → TopMeets node node₃ (three_at (read_node 62 s) s p) r
-          three-rest f =
-              let m = f first.value second.value halves in
-              record {
-                step = rw (three-second ∙ then-got (λ b p₃. third_at (read_node 62 s) s first.value b p₃) second.is) m.step;
-                same = m.same ∙ length-second;
-              }
+        pub three-rest : three_at (read_node 62 s) s p ≡ third_at (read_node 62 s) s A.value B.value p₂
+        three-rest = three-second ∙ then-got (λ b p₃. third_at (read_node 62 s) s A.value b p₃) B.is
 
 -- ---- two nodes of a top are two labels where there are two in all
 two-labels : (a b : Tree) → nodes a + nodes b ≡ 2 → two_labels (fork a b) ≡ true
@@ -158,49 +124,40 @@ module _ (s : List ℕ) (p : ℕ) {node : List ℕ} {marks : List Bool} {half en
         let two : half ≡ 2 = omega (arith, h.middle, h.behind, some-nodes a, some-nodes b) in
         rw (h.cells, two) (two-stand a b h.start both (omega (arith, same_start, long)))
 
-    pub third-closed : {q x v : ℕ} → q ≡ skip s p → x ≡ get_or s q 0 → x ≡ 41 → v ≡ 66 → TopMeets node (set (set node 2 (get_or node 3 0)) 0 v) (third_at (read_node 62 s) s a b p) (Next (q + 1) 3)
+    pub third-closed : {q x v : ℕ} → q ≡ skip s p → x ≡ get_or s q 0 → x ≡ 41 → v ≡ 66 → Accepts (third_at (read_node 62 s) s a b p) (q + 1) (TopStands (set (set node 2 (get_or node 3 0)) 0 v) 3)
     third-closed {q} e f g z = record {
-      step = step-got (third-two (read_node 62 s) s a b p (two-labels a b both) (ap (λ (j : ℕ). get_or s j 0) (sym e) ∙ sym f ∙ g)) (rw (e, both)) (rw z stand);
-      same = simp length-set;
+      value = fork a b;
+      is = rw e (third-two (read_node 62 s) s a b p (two-labels a b both) (ap (λ (j : ℕ). get_or s j 0) (sym e) ∙ sym f ∙ g));
+      keeps = record { cells = rw z stand; count = omega (arith, both) };
     }
 
   -- a third node is read behind them
-  module _ {q k : ℕ} (c : Passed end (token_at 44 s p) q k) where
-    pub third-draft : Draft node marks k 62
-    third-draft = rw c.count h.draft
+  module _ (q : ℕ) {node₃ : List ℕ} {marks₃ : List Bool} {p₃ last : ℕ} (C : Noded (read_node 62 s q (seen node end)) p₃ node node₃ marks₃ end last) where
+    all : last ≡ nodes (fork a (fork b C.value))
+    all = omega (arith, h.middle, h.behind, C.keeps.count)
 
-    module _ {node₃ : List ℕ} {marks₃ : List Bool} {r₃ : Step} (m : Meets node node₃ marks₃ k (read_node 62 s q (seen node k)) r₃) {p₃ last : ℕ} (e : r₃ ≡ Next p₃ last) where
-      third : Accepted node node₃ marks₃ k (read_node 62 s q (seen node k)) p₃ last
-      third = step-next m.step e
+    pub half_room : (half < last) × (last ≤ half + draft_bytes)
+    half_room = (omega (arith, h.middle, all), omega (arith, next-in s q h.draft C, long))
 
-      all : last ≡ nodes (fork a (fork b third.value))
-      all = omega (arith, h.middle, h.behind, c.count, third.count)
+    pub top-room : (0 < last) × (last ≤ draft_bytes)
+    top-room = (omega (arith, all), omega (arith, next-in s q h.draft C, long))
 
-      pub half_room : (half < last) × (last ≤ half + draft_bytes)
-      half_room = (omega (arith, h.middle, all), omega (arith, next-in s q third-draft third, long))
+    pub half-in-third : length node₃ ≡ length node → half < length node₃
+    half-in-third n = omega (arith, half_room, top-room, long)
 
-      pub top-room : (0 < last) × (last ≤ draft_bytes)
-      top-room = (omega (arith, all), omega (arith, next-in s q third-draft third, long))
+    -- both forks are closed
+    closed : (v w : ℕ) → v ≡ 64 + (last - half + 1) / 2 → w ≡ 64 + (last - 0 + 1) / 2 → set (set node₃ half v) 0 w ≡ sets h.start 0 (pre (fork a (fork b C.value)))
+    closed v w f g =
+        let x = C.value in
+        let base : List ℕ = sets (set h.start 0 0) 1 (pre a) in
+        let inner : set node₃ half v ≡ sets base half (pre (fork b x)) =
+        closed-by base node node₃ half end v b x h.cells h.behind C.keeps.cells (omega (arith, all, h.middle, twice b, twice x)) in
+        closed-by h.start base (set node₃ half v) 0 half w a (fork b x) refl h.middle inner (omega (arith, all, twice a, twice b, twice x))
 
-      pub half-in-third : half < length node₃
-      half-in-third = omega (arith, half_room, top-room, m.same, long)
-
-      pub top-in-third : (v : ℕ) → 0 < length (set node₃ half v)
-      top-in-third v = simp length-set (omega (arith, half-in-third))
-
-      -- both forks are closed
-      closed : (v w : ℕ) → v ≡ 64 + (last - half + 1) / 2 → w ≡ 64 + (last - 0 + 1) / 2 → set (set node₃ half v) 0 w ≡ sets h.start 0 (pre (fork a (fork b third.value)))
-      closed v w f g =
-          let x = third.value in
-          let base : List ℕ = sets (set h.start 0 0) 1 (pre a) in
-          let inner : set node₃ half v ≡ sets base half (pre (fork b x)) =
-          closed-by base node node₃ half k v b x h.cells (omega (arith, h.behind, c.count)) third.keeps.cells (omega (arith, all, h.middle, twice b, twice x)) in
-          closed-by h.start base (set node₃ half v) 0 half w a (fork b x) refl h.middle inner (omega (arith, all, twice a, twice b, twice x))
-
-      third-stands : (v w : ℕ) → v ≡ 64 + (last - half + 1) / 2 → w ≡ 64 + (last - 0 + 1) / 2 → Stands (set (set node₃ half v) 0 w) 0 (pre (fork a (fork b third.value)))
-      third-stands v w f g =
-          let t : Tree = fork a (fork b third.value) in
-          (drop (length (pre t)) h.start, closed v w f g ∙ sets-start h.start (pre t) (omega (arith, length-pre t, all, top-room, same_start, long)))
+    pub third-stands : (v w : ℕ) → v ≡ 64 + (last - half + 1) / 2 → w ≡ 64 + (last - 0 + 1) / 2 → TopStands (set (set node₃ half v) 0 w) last (fork a (fork b C.value))
+    third-stands v w f g =
+        let t : Tree = fork a (fork b C.value) in
+        record { cells = (drop (length (pre t)) h.start, closed v w f g ∙ sets-start h.start (pre t) (omega (arith, length-pre t, all, top-room, same_start, long))); count = all }
 
   -- unless they are two labels and the bracket is closed behind them
   module _ (more : end ≡ 4 → byte_at s (skip s p) ≡ 41 → ⊥) where
@@ -210,25 +167,12 @@ module _ (s : List ℕ) (p : ℕ) {node : List ℕ} {marks : List Bool} {half en
     abbrev thirds : ℕ → Read Tree
     thirds p₁ = and_then (read_node 62 s p₁ (labels a ++ labels b)) closes
 
-    third-is : third_at (read_node 62 s) s a b p ≡ and_then (token_at 44 s p) (λ u p₁. thirds p₁)
+    pub third-is : third_at (read_node 62 s) s a b p ≡ and_then (token_at 44 s p) (λ u p₁. thirds p₁)
     third-is = third-more (read_node 62 s) s a b p (λ e f. more (omega (arith, h.middle, h.behind, labels-two a b e)) f) ∙ token-then 44 s p thirds
 
-    pub third-no-comma : {r : Step} {x : Refusal} → TokenMeets end (token_at 44 s p) r → r ≡ Refused x → TopMeets node node (third_at (read_node 62 s) s a b p) r
-    third-no-comma m e = record { step = rw third-is (step-ends (λ u p₁. thirds p₁) m e); same = refl }
+    module _ {q : ℕ} (c : Passed (token_at 44 s p) q) where
+      pub third-rest : third_at (read_node 62 s) s a b p ≡ and_then (read_node 62 s q (seen node end)) closes
+      third-rest = rw h.told (third-is ∙ then-got (λ u p₁. thirds p₁) c.is)
 
-    module _ {q k : ℕ} (c : Passed end (token_at 44 s p) q k) {node₃ : List ℕ} {marks₃ : List Bool} {r₃ : Step} (m : Meets node node₃ marks₃ k (read_node 62 s q (seen node k)) r₃) where
-      third-rest : third_at (read_node 62 s) s a b p ≡ and_then (read_node 62 s q (seen node k)) closes
-      third-rest = rw (c.count, h.told) (third-is ∙ then-got (λ u p₁. thirds p₁) c.is)
-
-      pub third-refused : {x : Refusal} → r₃ ≡ Refused x → TopMeets node node₃ (third_at (read_node 62 s) s a b p) r₃
-      third-refused e = record { step = rw third-rest (step-ends closes m.step e); same = m.same }
-
-      pub third-got : {p₃ last : ℕ} (e : r₃ ≡ Next p₃ last) {r : Step} (v w : ℕ) → v ≡ 64 + (last - half + 1) / 2 → w ≡ 64 + (last - 0 + 1) / 2
-          → TokenMeets last (token_at 41 s p₃) r → TopMeets node (set (set node₃ half v) 0 w) (third_at (read_node 62 s) s a b p) r
-      third-got {p₃} e v w f g t =
-          let x = third c m e in
-          let u : Tree = fork a (fork b x.value) in
-          record {
-            step = rw (third-rest ∙ then-got closes x.is ∙ token-then 41 s p₃ (λ p₄. got u p₄)) (step-passed u t (all c m e) (third-stands c m e v w f g));
-            same = simp length-set m.same;
-          }
+      pub third-closes : {x : Tree} {p₃ : ℕ} → read_node 62 s q (seen node end) ≡ got x p₃ → third_at (read_node 62 s) s a b p ≡ and_then (token_at 41 s p₃) (λ u p₄. got (fork a (fork b x)) p₄)
+      third-closes {x} {p₃} e = third-rest ∙ then-got closes e ∙ token-then 41 s p₃ (λ p₄. got (fork a (fork b x)) p₄)

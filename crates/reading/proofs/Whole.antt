@@ -12,29 +12,24 @@ use Rattle.meaning.specs.Lists.{member}
 use Rattle.meaning.specs.Tree.{Tree as Topology, leaf, fork, Good, least, canon}
 use Rattle.meaning.specs.Kind.{Kind, rooted, unrooted, Kinded, Takes}
 use Rattle.meaning.specs.Unrooted.{spin, standing}
-use Rattle.meaning.specs.Reading.{Read, got, refused, skip, token, mark_at, top_at, tree_at, untaken, or_differs, read_tree}
-use Rattle.meaning.specs.Answer.{refusal}
+use Rattle.meaning.specs.Reading.{Read, got, refused, and_then, skip, token, mark_at, top_at, tree_at, untaken, or_differs, read_tree}
 use Rattle.meaning.proofs.Logic.{cases}
 use Rattle.meaning.proofs.Sound.{top_sound, tree-behind}
 use Rattle.meaning.proofs.Ways.{gives-got, unmarked}
-use Rattle.lent.specs.Runs.{Stands}
-use Rattle.held.specs.Held.{nodes, pre, Holds, Room, hold}
+use Rattle.held.specs.Held.{nodes, Holds, Room, hold}
 use Rattle.held.specs.Kept.{kind_of, Keeps, Kept, KeepsKind}
 use Rattle.held.specs.Labels.{labels_within}
+use Rattle.held.specs.declared.Kind.{Kind as HeldKind}
 use Rattle.held.specs.declared.Tree.{Tree}
 use Rattle.held.proofs.Laws.{few-nodes}
-use Rattle.tokens.specs.Draft.{too_large, draft_bytes, Draft, token_at, TokenMeets}
-use Rattle.reading.specs.Opening.{TopMeets}
-use Rattle.tokens.specs.Mark.{MarkMeets}
-use Rattle.tokens.specs.Paper.{going_on, step_answer, StepMeets}
-use Rattle.reading.specs.Whole.{TreeMeets}
-use Rattle.tokens.specs.declared.Step.{Step}
-use Rattle.tokens.specs.declared.Refusal.{Refusal}
-use Rattle.tokens.specs.declared.marks.Marked.{Marked}
+use Rattle.tokens.specs.Draft.{too_large, draft_bytes, Draft, token_at}
+use Rattle.tokens.specs.Paper.{number_of, Accepts}
+use Rattle.tokens.specs.declared.Reason.{Reason}
+use Rattle.reading.specs.Opening.{TopStands}
+use Rattle.reading.specs.Whole.{Reads}
 use Rattle.reading.specs.declared.TreeRead.{TreeRead}
-use Rattle.tokens.specs.declared.Step.TheVariants.{Next, Refused}
 use Rattle.tokens.proofs.Meet.{token-then}
-use Rattle.tokens.proofs.Steps.{then-got, differs-ends, differs_none, Accepts, step-got, step-refused, step-next, step-ends, step-passed}
+use Rattle.tokens.proofs.Steps.{numbered, then-got, differs-ends, differs_none}
 
 -- a draft of which nothing is read yet
 abbrev pub blank-draft : List ℕ
@@ -63,90 +58,77 @@ standing-nodes unrooted (fork a b) =
     cases (λ d. nodes (cond d (spin b a) (spin a b)) ≡ suc (nodes a + nodes b)) (leb (least a) (least b)) (λ _. omega (arith, spin-nodes b a)) (λ _. omega (arith, spin-nodes a b))
 
 -- ---- a mark
-module _ (s : List ℕ) (p : ℕ) (w : Marked) (m : MarkMeets w (mark_at s p)) where
-  pub at-no-mark : {Keep : Kinded → Type 0} {x : Refusal} → w.step ≡ Refused x → StepMeets (λ y. nodes y.tree) Keep w.step (tree_at s p)
+module _ (s : List ℕ) (p : ℕ) where
+  pub tree-is : tree_at s p ≡ and_then (mark_at s p) (unmarked s)
   unfolding tree_at
-  at-no-mark e = step-ends (unmarked s) m e
+  tree-is = refl
 
-  -- and the top
-  module _ {p₁ k₁ : ℕ} (e : w.step ≡ Next p₁ k₁) {node : List ℕ} {r : Step} (t : TopMeets blank-draft node (top_at (kind_of w.kind) s p₁) r) where
-    marked : tree_at s p ≡ unmarked s (kind_of w.kind) p₁
-    unfolding tree_at
-    marked = let M = step-next m e in rw M.keeps (then-got (unmarked s) M.is)
-
+  -- it was accepted
+  module _ (kind : HeldKind) {p₁ : ℕ} (M : Accepts (mark_at s p) p₁ (λ k. kind_of kind ≡ k)) where
     abbrev whole : Topology → Kinded
-    whole u = record { kind = kind_of w.kind; tree = standing (kind_of w.kind) u }
+    whole u = record { kind = kind_of kind; tree = standing (kind_of kind) u }
 
     abbrev ends : Topology → ℕ → Read Kinded
     ends u q = token 59 s q (λ q'. got (whole u) q')
 
-    pub at-no-top : {Keep : Kinded → Type 0} {x : Refusal} → r ≡ Refused x → StepMeets (λ y. nodes y.tree) Keep r (tree_at s p)
-    at-no-top f = rw marked (step-ends ends t.step f)
+    pub tree-marked : tree_at s p ≡ and_then (top_at (kind_of kind) s p₁) ends
+    tree-marked = tree-is ∙ then-got (unmarked s) M.is ∙ ap (λ k. unmarked s k p₁) (sym M.keeps)
 
-    module _ {q n : ℕ} (f : r ≡ Next q n) where
-      top : Accepts nodes (λ u. Stands node 0 (pre u)) (top_at (kind_of w.kind) s p₁) q n
-      top = step-next t.step f
-
-      good : Good top.value
-      good = (gives-got (top_sound (kind_of w.kind) s p₁) top.is).good
+    -- and the top
+    module _ {node : List ℕ} {q n : ℕ} (T : Accepts (top_at (kind_of kind) s p₁) q (TopStands node n)) where
+      good : Good T.value
+      good = (gives-got (top_sound (kind_of kind) s p₁) T.is).good
 
       -- the draft holds the tree
-      top-stands : Holds node 0 top.value
-      top-stands = record { small = good.small; stands = top.keeps }
+      top-stands : Holds node 0 T.value
+      top-stands = record { small = good.small; stands = T.keeps.cells }
 
       pub top-holds : Room nodes node 0 127
-      top-holds = record { tree = top.value; holds = top-stands; room = few-nodes good }
+      top-holds = record { tree = T.value; holds = top-stands; room = few-nodes good }
+
+      pub tree-ends : tree_at s p ≡ and_then (token_at 59 s q) (λ u q'. got (whole T.value) q')
+      tree-ends = tree-marked ∙ then-got ends T.is ∙ token-then 59 s q (λ q'. got (whole T.value) q')
 
       -- and is put in canonical order
       module _ (tree : Tree) (h : (u : Topology) → Holds node 0 u → tree.node ≡ hold (canon u)) where
-        ordered : Keeps tree top.value
-        ordered = record { good = good; bytes = h top.value top-stands }
+        ordered : Keeps tree T.value
+        ordered = record { good = good; bytes = h T.value top-stands }
 
         pub top_kept : Kept tree
-        top_kept = record { topology = top.value; keeps = ordered }
+        top_kept = record { topology = T.value; keeps = ordered }
 
-        pub at-end : {v : TreeRead} → TokenMeets n (token_at 59 s q) v.step → ((u : Topology) → Keeps tree u → KeepsKind v.tree (whole u)) → TreeMeets v (tree_at s p)
-        at-end d k =
-            rw (marked ∙ then-got ends top.is ∙ token-then 59 s q (λ q'. got (whole top.value) q'))
-            (step-passed (whole top.value) d (top.count ∙ sym (standing-nodes (kind_of w.kind) top.value)) (k top.value ordered))
+        pub tree-reads : {read : TreeRead} → read.nodes ≡ n → ((u : Topology) → Keeps tree u → KeepsKind read.tree (whole u)) → Reads read (whole T.value)
+        tree-reads e k = record { keeps = k T.value ordered; count = e ∙ T.keeps.count ∙ sym (standing-nodes (kind_of kind) T.value) }
 
 -- ---- a text with exactly one tree
-module _ (takes : Takes) (s : List ℕ) (r : TreeRead) (m : TreeMeets r (tree_at s 0)) where
+module _ (takes : Takes) (s : List ℕ) where
   abbrev alone : Kinded → ℕ → Read Kinded
   alone x q = cond (ltb (skip s q) (length s)) (refused 1 (skip s q)) (got x q)
 
   abbrev taken : Kinded → ℕ → Read Kinded
   taken x q = or_differs (untaken takes x.kind) q (alone x q)
 
-  pub one-refused : {x : Refusal} → r.step ≡ Refused x → TreeMeets r (read_tree takes s)
+  pub one-is : read_tree takes s ≡ and_then (tree_at s 0) taken
   unfolding read_tree
-  one-refused e = step-ends taken m e
+  one-is = refl
 
-  module _ {p k : ℕ} (e : r.step ≡ Next p k) where
-    one : Accepts (λ x. nodes x.tree) (KeepsKind r.tree) (tree_at s 0) p k
-    one = step-next m e
+  module _ {read : TreeRead} (R : Accepts (tree_at s 0) read.behind (Reads read)) where
+    pub one_place : 1 ≤ read.behind
+    one_place = (tree-behind s 0 R.value read.behind R.is).0
 
-    pub one_place : 1 ≤ p
-    one_place = (tree-behind s 0 one.value p one.is).0
+    -- why it is not taken
+    pub one-untaken : (x : Reason) → number_of x ≡ untaken takes (kind_of read.tree.kind) → read_tree takes s ≡ refused (number_of x) (read.behind - 1)
+    one-untaken x e =
+        let line : untaken takes R.value.kind ≡ number_of x = sym (e ∙ ap (untaken takes) R.keeps.keeps.kind) in
+        one-is ∙ then-got taken R.is ∙ rw line (differs-ends (number_of x) read.behind (alone R.value read.behind) (numbered x))
 
-    -- n is the line by which it is not taken, or 0
-    module _ {n : ℕ} (f : n ≡ untaken takes (kind_of r.tree.kind)) where
-      line : untaken takes one.value.kind ≡ n
-      line = sym (f ∙ ap (untaken takes) one.keeps.kind)
+    -- it is taken
+    module _ (e : 0 ≡ untaken takes (kind_of read.tree.kind)) {end : ℕ} (g : end ≡ skip s read.behind) where
+      one-taken : read_tree takes s ≡ alone R.value read.behind
+      one-taken = one-is ∙ then-got taken R.is ∙ differs_none (untaken takes R.value.kind) read.behind (alone R.value read.behind) (sym (e ∙ ap (untaken takes) R.keeps.keeps.kind))
 
-      pub one-untaken : {w : TreeRead} → (n ≡ 0 → ⊥) → step_answer w.step ≡ refusal n 0 (p - 1) → TreeMeets w (read_tree takes s)
-      unfolding read_tree
-      one-untaken z h = step-refused (then-got taken one.is ∙ rw line (differs-ends n p (alone one.value p) z)) h
+      pub one_more : end < length s → read_tree takes s ≡ refused 1 end
+      one_more l = rw g (one-taken ∙ rw (lt-ltb (skip s read.behind) (length s) (omega arith)))
 
-      module _ (z : n ≡ 0) {end : ℕ} (g : end ≡ skip s p) where
-        one-taken : read_tree takes s ≡ alone one.value p
-        unfolding read_tree
-        one-taken = then-got taken one.is ∙ differs_none (untaken takes one.value.kind) p (alone one.value p) (line ∙ z)
-
-        pub one_more : {w : TreeRead} → end < length s → step_answer w.step ≡ refusal 1 0 end → TreeMeets w (read_tree takes s)
-        one_more l h = step-refused (one-taken ∙ rw (lt-ltb (skip s p) (length s) (omega arith))) (h ∙ ap (refusal 1 0) g)
-
-        pub one-done : length s ≤ end → TreeMeets r (read_tree takes s)
-        one-done l =
-            let h : alone one.value p ≡ got one.value p = rw (le-ltb (skip s p) (length s) (omega arith)) in
-            step-got (one-taken ∙ h) (ap step_answer e ∙ ap (going_on p) one.count) one.keeps
+      pub one-done : length s ≤ end → read_tree takes s ≡ got R.value read.behind
+      one-done l = one-taken ∙ rw (le-ltb (skip s read.behind) (length s) (omega arith))

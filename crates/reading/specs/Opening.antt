@@ -1,6 +1,6 @@
 -- What reading the top of a tree answers, and an unrooted top whose first two nodes are read.
 -- Assumes nothing.
-use Rattle.std.specs.Prelude.{◌≡◌, Bool, List, ◌++◌, ℕ, ◌+◌, ◌-◌, length, set}
+use Rattle.std.specs.Prelude.{◌≡◌, Bool, List, ◌++◌, ℕ, ◌+◌, ◌-◌, set, Result}
 use Rattle.std.proofs.lemmas.List.Edits.{sets}
 use Rattle.meaning.specs.Limits.{max_open}
 use Rattle.meaning.specs.Tree.{Tree, labels}
@@ -8,13 +8,18 @@ use Rattle.meaning.specs.Reading.{Read}
 use Rattle.lent.specs.Runs.{Stands}
 use Rattle.held.specs.Held.{nodes, pre}
 use Rattle.tokens.specs.Draft.{seen, Draft}
-use Rattle.tokens.specs.Paper.{StepMeets}
+use Rattle.tokens.specs.Paper.{ReadsAs}
+use Rattle.tokens.specs.declared.Refusal.{Refusal}
 use Rattle.tokens.specs.declared.Step.{Step}
 
--- an accepted top stands at the draft's start, and reading goes on behind it; a refusal is the answer; the draft keeps its size
-pub record TopMeets (node node' : List ℕ) (g : Read Tree) (r : Step) : Type 0 where
-  pub step : StepMeets nodes (λ t. Stands node' 0 (pre t)) r g
-  pub same : length node' ≡ length node
+-- the top t stands at the draft's start, and has so many nodes
+pub record TopStands (node' : List ℕ) (total : ℕ) (t : Tree) : Type 0 where
+  pub cells : Stands node' 0 (pre t)
+  pub count : total ≡ nodes t
+
+-- an accepted top stands so, and reading goes on behind it; a refusal is the answer
+abbrev pub TopMeets : List ℕ → Read Tree → Result Step Refusal → Type 0
+TopMeets node' g r = ReadsAs g (λ step. step.behind) (λ step. TopStands node' step.nodes) r
 
 -- behind its bracket the nodes a and b of a top are read into a draft: the fork of both is open, and so is, at `half`, that of
 -- b and a third node

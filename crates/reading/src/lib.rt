@@ -6,23 +6,24 @@ pub mod trees;
 ghost use Rattle.std.specs.Prelude.{◌≡◌, suc, ◌+◌, ◌-◌, ◌/◌, ◌≤◌, ◌<◌};
 ghost use Rattle.meaning.specs.Limits.{max_label};
 ghost use Rattle.meaning.specs.Reading.{fork_at, read_node};
-ghost use Rattle.tokens.specs.Draft.{draft_bytes, seen, Draft, Meets};
+ghost use Rattle.tokens.specs.Draft.{draft_bytes, seen, Draft, NodeMeets};
 
 use held::Tree;
 use tokens::{
-    Marks, Refusal, Step, byte_at, expect_byte, is_digit, read_label, refuse, skip_blanks,
+    Marks, Reason, Refusal, Step, byte_at, expect_byte, is_digit, read_label, skip_blanks,
 };
 pub use trees::{read_at, read_tree, untaken};
 
-// What reading a tree gives: the step, with the number of its nodes, and the tree, which counts only where reading goes on.
-#[derive(Drop)]
+/// A tree that was read, how many nodes it has, and the place behind it.
+#[derive(Clone, Copy)]
 pub struct TreeRead {
-    pub step: Step,
     pub tree: Tree,
+    pub nodes: usize,
+    pub behind: usize,
 }
 
-// Which kinds of trees a call takes.
-#[derive(Clone, Copy)]
+/// Which kinds of trees a call takes.
+#[derive(Clone, Copy, Debug, PartialEq, Eq)]
 pub enum Takes {
     Either,
     RootedOnly,
@@ -34,10 +35,13 @@ fn fork_byte(at: usize, end: usize) -> u8
     ensures { result ≡ max_label + (end - at + 1) / 2 }
 {
     let leaves = (end - at + 1) / 2;
+    // `as`: a `try_from` would have to say what becomes of a number above 255, and there is none here.
     Tree::FORK + leaves as u8
 }
 
 // The node at `from`, as the node `at`, where `room` more brackets may open.
+// The draft's bytes, its marks and the place in it stay parameters here and below: what `Draft` says of them names the `room`, which
+// falls with each bracket, so that it is no invariant of a type.
 #[cycle(read_fork_read_node)]
 fn read_node(
     s: &[u8],
@@ -46,9 +50,9 @@ fn read_node(
     node: &mut [u8],
     at: usize,
     marks: &mut Marks,
-) -> Step
+) -> Result<Step, Refusal>
     requires { Draft node.old marks.old at room }
-    ensures { Meets node.old node.new marks.new at
+    ensures { NodeMeets node.old node.new marks.new at
         (read_node room s.now from (seen node.old at)) result }
 {
     let q = skip_blanks(s, from);
@@ -60,11 +64,11 @@ fn read_node(
     if opens {
         let too_deep = room == 0;
         if too_deep {
-            return refuse(Refusal::TOO_DEEP, q);
+            return Err(Reason::TooDeep.at(q));
         }
         return read_fork(s, q + 1, room - 1, node, at, marks);
     }
-    refuse(Refusal::WRONG_BYTE, q)
+    Err(Reason::WrongByte.at(q))
 }
 
 // The rest of a fork, behind its bracket, as the node `at`. Its byte is 0, which is no label, until its leaves are known.
@@ -76,24 +80,18 @@ fn read_fork(
     node: &mut [u8],
     at: usize,
     marks: &mut Marks,
-) -> Step
+) -> Result<Step, Refusal>
     requires { Draft node.old marks.old at (suc room) }
-    ensures { Meets node.old node.new marks.new at
+    ensures { NodeMeets node.old node.new marks.new at
         (fork_at (read_node room s.now) s.now from (seen node.old at)) result }
 {
     node[at] = 0;
-    let first = read_node(s, from, room, node, at + 1, marks);
-    let Step::Next(p, half) = first else {
-        return first;
-    };
-    let comma = expect_byte(s, p, b',', half);
-    let Step::Next(q, next) = comma else {
-        return comma;
-    };
-    let second = read_node(s, q, room, node, next, marks);
-    let Step::Next(p2, end) = second else {
-        return second;
-    };
-    node[at] = fork_byte(at, end);
-    expect_byte(s, p2, b')', end)
+    let first = read_node(s, from, room, node, at + 1, marks)?;
+    let comma = expect_byte(s, first.behind, b',')?;
+    let second = read_node(s, comma, room, node, first.nodes, marks)?;
+    node[at] = fork_byte(at, second.nodes);
+    Ok(Step {
+        behind: expect_byte(s, second.behind, b')')?,
+        nodes: second.nodes,
+    })
 }

@@ -10,7 +10,7 @@ ghost use Rattle.tokens.specs.Draft.{Draft};
 ghost use Rattle.reading.specs.Opening.{TopMeets, Halves, HasHalves};
 
 use held::{Kind, Tree};
-use tokens::{Marks, Refusal, Step};
+use tokens::{Marks, Reason, Refusal, Step};
 
 // Brackets that may open inside that of a top.
 const INNER_OPEN: usize = Tree::MAX_OPEN - 1;
@@ -24,10 +24,10 @@ fn read_third(
     half: usize,
     end: usize,
     marks: &mut Marks,
-) -> Step
+) -> Result<Step, Refusal>
     requires { HasHalves node.old marks.old half end }
     ensures { (a b : Topology) → Halves node.old marks.old half end a b
-        → TopMeets node.old node.new (third_at (read_node (max_open - 1) s.now) s.now a b from) result }
+        → TopMeets node.new (third_at (read_node (max_open - 1) s.now) s.now a b from) result }
 {
     let two_labels = end == 4;
     if two_labels {
@@ -35,48 +35,42 @@ fn read_third(
         if tokens::byte_at(s, q) == b')' {
             node[2] = node[3];
             node[0] = super::fork_byte(0, 3);
-            return Step::Next(q + 1, 3);
+            return Ok(Step {
+                behind: q + 1,
+                nodes: 3,
+            });
         }
     }
-    let comma = tokens::expect_byte(s, from, b',', end);
-    let Step::Next(p, at) = comma else {
-        return comma;
-    };
-    let third = super::read_node(s, p, INNER_OPEN, node, at, marks);
-    let Step::Next(p2, last) = third else {
-        return third;
-    };
+    let comma = tokens::expect_byte(s, from, b',')?;
+    let third = super::read_node(s, comma, INNER_OPEN, node, end, marks)?;
+    let last = third.nodes;
     node[half] = super::fork_byte(half, last);
     node[0] = super::fork_byte(0, last);
-    tokens::expect_byte(s, p2, b')', last)
+    Ok(Step {
+        behind: tokens::expect_byte(s, third.behind, b')')?,
+        nodes: last,
+    })
 }
 
 // The rest of an unrooted tree's top, behind its bracket.
-fn read_three(s: &[u8], from: usize, node: &mut [u8], marks: &mut Marks) -> Step
+fn read_three(s: &[u8], from: usize, node: &mut [u8], marks: &mut Marks) -> Result<Step, Refusal>
     requires { Draft node.old marks.old 0 max_open }
-    ensures { TopMeets node.old node.new (three_at (read_node (max_open - 1) s.now) s.now from) result }
+    ensures { TopMeets node.new (three_at (read_node (max_open - 1) s.now) s.now from) result }
 {
     node[0] = 0;
-    let first = super::read_node(s, from, INNER_OPEN, node, 1, marks);
-    let Step::Next(p, end) = first else {
-        return first;
-    };
-    let comma = tokens::expect_byte(s, p, b',', end);
-    let Step::Next(q, half) = comma else {
-        return comma;
-    };
+    let first = super::read_node(s, from, INNER_OPEN, node, 1, marks)?;
+    let comma = tokens::expect_byte(s, first.behind, b',')?;
+    let half = first.nodes;
     node[half] = 0;
-    let second = super::read_node(s, q, INNER_OPEN, node, half + 1, marks);
-    let Step::Next(p2, end2) = second else {
-        return second;
-    };
-    read_third(s, p2, node, half, end2, marks)
+    let second = super::read_node(s, comma, INNER_OPEN, node, half + 1, marks)?;
+    read_third(s, second.behind, node, half, second.nodes, marks)
 }
 
-// The top of an unrooted tree.
-fn read_unrooted(s: &[u8], from: usize, node: &mut [u8], marks: &mut Marks) -> Step
+// The top of an unrooted tree: as `read_node`, but for what a bracket opens. One function of both would take that as a closure which
+// calls it again.
+fn read_unrooted(s: &[u8], from: usize, node: &mut [u8], marks: &mut Marks) -> Result<Step, Refusal>
     requires { Draft node.old marks.old 0 max_open }
-    ensures { TopMeets node.old node.new (top_at unrooted s.now from) result }
+    ensures { TopMeets node.new (top_at unrooted s.now from) result }
 {
     let q = tokens::skip_blanks(s, from);
     let b = tokens::byte_at(s, q);
@@ -86,14 +80,22 @@ fn read_unrooted(s: &[u8], from: usize, node: &mut [u8], marks: &mut Marks) -> S
     if b == b'(' {
         return read_three(s, q + 1, node, marks);
     }
-    tokens::refuse(Refusal::WRONG_BYTE, q)
+    Err(Reason::WrongByte.at(q))
 }
 
-// The top of a tree of this kind, as the draft's first nodes.
-pub fn read_top(s: &[u8], from: usize, kind: Kind, node: &mut [u8], marks: &mut Marks) -> Step
+/// The top of a tree of this kind, as the draft's first nodes. Refused at the place of the first byte, label or bracket that can't
+/// stand there.
+pub fn read_top(
+    s: &[u8],
+    from: usize,
+    kind: Kind,
+    node: &mut [u8],
+    marks: &mut Marks,
+) -> Result<Step, Refusal>
     requires { Draft node.old marks.old 0 max_open }
-    ensures { TopMeets node.old node.new (top_at (kind_of kind) s.now from) result }
+    ensures { TopMeets node.new (top_at (kind_of kind) s.now from) result }
 {
+    // The kind is that of the text, so it is known when the call runs.
     match kind {
         Kind::Rooted => super::read_node(s, from, Tree::MAX_OPEN, node, 0, marks),
         Kind::Unrooted => read_unrooted(s, from, node, marks),

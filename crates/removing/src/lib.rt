@@ -8,7 +8,7 @@ ghost use Rattle.holdings.specs.Memory.{entries_at, encode, IsIndex};
 ghost use Rattle.removing.specs.Removing.{others_in, Removable};
 
 use held::Tree;
-use slots::Index;
+use slots::{Index, Slots};
 
 // Of the n entries keeps those of other numbers than x, each moved down over the gaps before it; returns the place behind them.
 fn close_gaps(memory: &mut [u8], n: usize, x: u8) -> usize
@@ -16,6 +16,7 @@ fn close_gaps(memory: &mut [u8], n: usize, x: u8) -> usize
     ensures { Wrote (others_in memory.old n x) memory.old memory.new entries_at result }
 {
     let mut to = Index::ENTRIES_AT;
+    // By number: what is read and what is written lie in one slice.
     for k in 0..n {
         let y = memory[Index::ENTRIES_AT + 2 * k];
         let c = memory[Index::ENTRIES_AT + 2 * k + 1];
@@ -28,14 +29,15 @@ fn close_gaps(memory: &mut [u8], n: usize, x: u8) -> usize
     to
 }
 
-// Removes the tree of the number x, where it has one: its entries, and its slot. The other trees keep their numbers.
+/// Removes the tree of the number x, where it has one: its entries, and its slot. The other trees keep their numbers.
 pub fn remove(memory: &mut [u8], x: usize)
     requires { Removable memory.old x }
     ensures { (hs : List Slot) → IsIndex hs memory.old
         → memory.new ≡ written (encode (remove_from hs x)) memory.old }
 {
-    let n = slots::count(memory);
+    let n = Slots { memory }.count();
+    // `as`: no `From` of a narrower type, and a `TryFrom` would have an `Err` that never comes.
     let end = close_gaps(memory, n, x as u8);
-    lent::clear_bytes(memory, end, Index::ENTRIES_AT + 2 * n);
-    lent::clear_bytes(memory, x * Tree::MAX_NODES, (x + 1) * Tree::MAX_NODES);
+    lent::fill(memory, end, Index::ENTRIES_AT + 2 * n, 0);
+    lent::fill(memory, x * Tree::MAX_NODES, (x + 1) * Tree::MAX_NODES, 0);
 }

@@ -1,12 +1,13 @@
 -- An answer of a call on clades as a reply with three numbers, and that the promise of its exported function determines them and the lent slices at exit.
 -- Assumes nothing.
-use mathlib.Core.Path.{◌≡◌, refl, sym, ap, subst, ◌∙◌}
+use mathlib.Core.Path.{◌≡◌, refl, sym, ap, ◌∙◌}
 use mathlib.Core.List.{List}
 use Prim.Native.Nat.{ℕ, zero, suc, ◌≤◌}
 use native.Mathlib.Omega.{arith}
 use Rattle.meaning.specs.Answer.{Answer, accepted, refusal, Outcome}
 use Rattle.tokens.specs.declared.Refusal.{Refusal}
-use Rattle.tokens.specs.Paper.{refusal_of}
+use Rattle.tokens.specs.Paper.{number_of, refusal_of}
+use Rattle.tokens.proofs.Steps.{numbered}
 use Rattle.families.specs.SupportCall.{SupportSize, SupportMemory, support_call}
 use Rattle.replies.specs.Coded.{Numbered}
 use Rattle.replies.specs.LongCoded.{support_value, support_coded}
@@ -24,8 +25,8 @@ coded-refusal : (n i p : ℕ) → 1 ≤ n → support_value n i p 0 ≡ refusal 
 coded-refusal zero i p h = absurd (omega (arith, h))
 coded-refusal (suc n) i p h = refl
 
-pub said-refused : {r : LongReply} {x : Refusal} {a : Answer SupportSize} → r ≡ long_reply x.number x.text x.place 0 → a ≡ refusal_of x → Numbered a → said r ≡ a
-said-refused {x} e f h = ap said e ∙ coded-refusal x.number x.text x.place (subst Numbered f h) ∙ sym f
+pub said-refused : {r : LongReply} (x : Refusal) → r ≡ long_reply (number_of x.reason) x.text x.place 0 → said r ≡ refusal_of x
+said-refused x e = ap said e ∙ coded-refusal (number_of x.reason) x.text x.place (numbered x.reason)
 
 -- ---- the numbers of an answer
 abbrev numbers : Answer SupportSize → LongReply

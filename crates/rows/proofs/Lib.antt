@@ -1,5 +1,6 @@
 pub mod Nodes
 pub mod Noted
 pub mod Places
-pub mod Settling
+pub mod Sorting
+pub mod Tests
 pub mod Whole

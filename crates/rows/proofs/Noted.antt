@@ -18,7 +18,7 @@ use Rattle.meaning.specs.Clade.{lowest}
 use Rattle.families.specs.Clades.{size}
 use Rattle.families.specs.Grown.{first_child}
 use Rattle.rows.specs.Places.{last_place, clade_at, Placed, Noted}
-use Rattle.rows.specs.Rows.{GrowRoom}
+use Rattle.rows.specs.Rows.{RowNoted, GrowRoom}
 use Rattle.rows.proofs.Places.{row-some, row_in, row-large, row_first, row-first-placed, row-second-placed}
 
 -- the last place before k + 1 is k, or that before k
@@ -67,7 +67,7 @@ pub noted-last : {row before last : List ℕ} {k : ℕ} → Noted row k before l
 noted-last {last = last} N r n e h = let q : n - 1 ≡ count_trailing_zeros 64 r = omega (arith, e) in ap (λ (l : ℕ). get_or last l 0) q ∙ N.last-is (count_trailing_zeros 64 r) h
 
 -- ---- the clade c at a place but 0, and its children
-module _ {row before last : List ℕ} {place c at len : ℕ} (G : GrowRoom row before last place c at len) (some : 0 < place) where
+module _ {row before last : List ℕ} (R : RowNoted row before last) {place c at len : ℕ} (G : GrowRoom row place c at len) (some : 0 < place) where
   abbrev cs : List ℕ
   cs = drop 1 row
 
@@ -78,28 +78,28 @@ module _ {row before last : List ℕ} {place c at len : ℕ} (G : GrowRoom row b
   here = (G.placed.stands some).1
 
   member : Memᴰ c cs
-  member = subst (λ (x : ℕ). Memᴰ x cs) here (row_in row G.a_row place some inside)
+  member = subst (λ (x : ℕ). Memᴰ x cs) here (row_in row R.a_row place some inside)
 
   pub placed-large : 2 ≤ size c
-  placed-large = row-large row G.a_row member
+  placed-large = row-large row R.a_row member
 
   noted-before : get_or before place 0 ≡ last_place row place (lowest c)
-  noted-before = G.noted.before_is place some inside ∙ ap (λ (x : ℕ). last_place row place (lowest x)) here
+  noted-before = R.noted.before_is place some inside ∙ ap (λ (x : ℕ). last_place row place (lowest x)) here
 
   pub placed_first : clade_at row (get_or before place 0) c ≡ first_child cs c
   placed_first =
       ap (λ (p : ℕ). clade_at row p c) noted-before
-      ∙ subst (λ (x : ℕ). clade_at row (last_place row place (lowest x)) x ≡ first_child cs x) here (row_first row G.a_row place some inside)
+      ∙ subst (λ (x : ℕ). clade_at row (last_place row place (lowest x)) x ≡ first_child cs x) here (row_first row R.a_row place some inside)
 
   pub first-placed : {f : ℕ} → f ≡ first_child cs c → Placed row (get_or before place 0) f
-  first-placed e = rw (noted-before, e) (subst (λ (x : ℕ). Placed row (last_place row place (lowest x)) (first_child cs x)) here (row-first-placed row G.a_row place some inside))
+  first-placed e = rw (noted-before, e) (subst (λ (x : ℕ). Placed row (last_place row place (lowest x)) (first_child cs x)) here (row-first-placed row R.a_row place some inside))
 
   pub first-inside : get_or before place 0 < length row
   first-inside = go (dec_lt 0 (get_or before place 0))
     where
       go : Dec (0 < get_or before place 0) → get_or before place 0 < length row
       go (yes h) = ((first-placed refl).stands h).0
-      go (no n) = omega (arith, row-some row G.a_row)
+      go (no n) = omega (arith, row-some row R.a_row)
 
-  pub second-placed : {f : ℕ} → f ≡ first_child cs c → (n : ℕ) → n ≡ lowest (c - f) → lowest (c - f) ≤ max_label → Placed row (get_or last (n - 1) 0) (c - f)
-  second-placed {f} e n q h = rw (noted-last G.noted (c - f) n q h) (rw e (row-second-placed row G.a_row c member))
+  pub second-placed : {f : ℕ} → f ≡ first_child cs c → Placed row (last_place row (length row) (lowest (c - f))) (c - f)
+  second-placed {f} e = rw e (row-second-placed row R.a_row c member)

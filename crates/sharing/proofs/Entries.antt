@@ -1,30 +1,28 @@
 -- Entries: where they stand, that their forests are compared, and that equal forests have equal keys.
 -- Assumes nothing.
-use mathlib.Core.Path.{◌≡◌, refl, sym, ap, subst, ◌∙◌}
+use mathlib.Core.Path.{◌≡◌, sym, subst, ◌∙◌}
 use mathlib.Core.Logic.{◌⊎◌, inl, inr}
+use mathlib.Core.Bool.{Bool, true}
 use mathlib.Core.List.{List}
-use Prim.Native.Nat.{ℕ, ◌+◌, ◌-◌, ◌*◌, ◌≤◌, ◌<◌}
+use Prim.Native.Nat.{ℕ, ◌<◌}
 use native.Mathlib.Decide.{ℕ_discrete, dec_lt}
 use native.Mathlib.Omega.{arith}
-use lib.ListN.{length, get_or, set, take, drop, replicate, length-set, length-drop}
-use lib.Seq.{ext_get_or, get_or-take, get_or-drop, get_or-set_same, get_or-set_other, length-sets, length-take-le}
-use Rattle.meaning.specs.Limits.{max_nodes, max_trees}
+use lib.ListN.{get_or}
 use Rattle.meaning.specs.Tree.{Tree as Topology, canon}
 use Rattle.meaning.specs.Move.{Cut}
 use Rattle.meaning.specs.Listing.{tree_of}
-use Rattle.meaning.proofs.TableText.{good-at}
-use Rattle.held.specs.Held.{pre, Holds, hold}
-use Rattle.held.specs.Kept.{Keeps}
-use Rattle.held.specs.declared.Tree.{Tree as Record}
-use Rattle.held.specs.declared.Kind.TheVariants.{Rooted}
+use Rattle.held.specs.Held.{Holds}
+use Rattle.held.specs.Kept.{KeepsAll, held_at}
+use Rattle.held.specs.declared.Table.{Table}
 use Rattle.held.proofs.Kept.{keeps-holds}
 use Rattle.pairs.specs.Pair.{OrderedCut, SameForest}
 use Rattle.pairs.proofs.Ordered.{canon-in-order}
 use Rattle.prints.proofs.Print.{key-same, key-some}
-use Rattle.chains.specs.Chains.{row_entries, Last, HasKey}
+use Rattle.chains.specs.Chains.{Last, HasKey}
 use Rattle.chains.proofs.Laws.{last_less, Walk, walk_begins, walk-further, walk_ends}
-use Rattle.sharing.specs.Links.{link_bytes, LinkedIn}
-use Rattle.sharing.specs.Entries.{tree_no, cut_no, forest_at, Entry, SameAs, Rows, Keyed, Seeks, Linkable, LinkedBack}
+use Rattle.sharing.specs.Links.{Square, is_linked, LinkedIn}
+use Rattle.sharing.specs.Entries.{tree_no, cut_no, forest_at, Entry, SameAs, Keyed, Seeks, Linkable, LinkedBack}
+use Rattle.sharing.proofs.Links.{put, put-square, put-here, put-other}
 
 -- ---- forests that are the same
 pub same-turned : {c d : Cut} → SameForest c d → SameForest d c
@@ -38,33 +36,17 @@ module _ {ts : List Topology} {e : ℕ} (E : Entry ts e) where
   pub entry-some : 0 < e
   entry-some = omega (arith, E.node)
 
-  module _ {nodes : List ℕ} (R : Rows ts nodes) where
+  module _ {table : Table} (K : KeepsAll table ts) where
     pub entry-tree : tree_no e < 160
-    entry-tree = omega (arith, E.inside, R.few)
+    entry-tree = omega (arith, E.inside, K.few)
 
-    -- a record that would keep it
-    abbrev record_of : Record
-    record_of = record { node = hold (canon (tree_of ts (tree_no e))); kind = Rooted }
+    pub entry-holds : Holds (held_at table (tree_no e)).node 0 (canon (tree_of ts (tree_no e)))
+    entry-holds = keeps-holds (K.each (tree_no e) E.inside)
 
-    keeps : Keeps record_of (tree_of ts (tree_no e))
-    keeps = record { good = good-at ts R.good (tree_no e) E.inside; bytes = refl }
-
-    -- the bytes of its row, from `from` up to `to`
-    pub row_is : (from to : ℕ) → from ≡ tree_no e * row_entries → to ≡ from + max_nodes → take (to - from) (drop from nodes) ≡ hold (canon (tree_of ts (tree_no e)))
-    row_is from to f g =
-        let count : to - from ≡ 127 = omega arith in
-        let room : 127 ≤ length (drop from nodes) = omega (arith, length-drop from nodes, R.long, entry-tree) in
-        let long : length (take 127 (drop from nodes)) ≡ 127 = length-take-le 127 (drop from nodes) room in
-        rw count
-        (ext_get_or 0 (take 127 (drop from nodes)) (hold (canon (tree_of ts (tree_no e))))
-        (long ∙ sym (length-sets (replicate max_nodes 0) 0 (pre (canon (tree_of ts (tree_no e))))))
-        (λ i h. get_or-take 127 (drop from nodes) i 0 (omega (arith, long)) ∙ get_or-drop from nodes i 0 ∙ ap (λ (k : ℕ). get_or nodes (k + i) 0) f ∙ R.bytes (tree_no e) E.inside E.first i (omega (arith, long))))
-
-    pub row-holds : {xs : List ℕ} → xs ≡ hold (canon (tree_of ts (tree_no e))) → Holds xs 0 (canon (tree_of ts (tree_no e)))
-    row-holds is = rw is (keeps-holds keeps)
-
-    pub row_cut : {xs : List ℕ} → xs ≡ hold (canon (tree_of ts (tree_no e))) → OrderedCut xs (cut_no e)
-    row_cut is = let t = tree_of ts (tree_no e) in record { tree = canon t; holds = row-holds is; in_order = canon-in-order t keeps.good.distinct; is_cut = E.is_cut }
+    pub entry-cut : OrderedCut (held_at table (tree_no e)).node (cut_no e)
+    entry-cut =
+        let t = tree_of ts (tree_no e) in
+        record { tree = canon t; holds = entry-holds; in_order = canon-in-order t (K.each (tree_no e) E.inside).good.distinct; is_cut = E.is_cut }
 
 -- ---- keys
 module _ {ts : List Topology} {keys : List ℕ} (K : Keyed ts keys) {e : ℕ} (E : Entry ts e) where
@@ -81,7 +63,7 @@ module _ {ts : List Topology} {keys : List ℕ} (K : Keyed ts keys) {e : ℕ} (E
       go (inr i) = i
 
 -- ---- the search for the last entry with the forest of e, among those with its key
-module _ {ts : List Topology} {nodes keys same : List ℕ} {end e : ℕ} (S : Seeks ts nodes keys same end e) where
+module _ {ts : List Topology} {table : Table} {keys same : List ℕ} {end e : ℕ} (S : Seeks ts table keys same end e) where
   abbrev pub Seek : ℕ → Type 0
   Seek q = Walk (HasKey keys (get_or keys e 0)) (SameAs ts e) e q
 
@@ -115,12 +97,12 @@ module _ {ts : List Topology} {nodes keys same : List ℕ} {end e : ℕ} (S : Se
 
 -- ---- links back from e
 -- the trees of entries behind q and before e that have its forest are linked to that of e; q is the next of them, or 0
-pub record Back (ts : List Topology) (links links' : List ℕ) (e q : ℕ) : Type 0 where
+pub record Back (ts : List Topology) (links links' : List (List Bool)) (e q : ℕ) : Type 0 where
   pub is : 0 < q → (q < e) × SameAs ts e q
   pub all : (x : ℕ) → q < x → x < e → SameAs ts e x → LinkedIn links' (tree_no x) (tree_no e)
-  pub kept : (i j : ℕ) → j < max_trees → LinkedIn links i j → LinkedIn links' i j
-  pub only : (i j : ℕ) → j < max_trees → LinkedIn links' i j → LinkedIn links i j ⊎ ((x : ℕ) × (i ≡ tree_no x) × (j ≡ tree_no e) × SameAs ts e x)
-  pub long : length links' ≡ length links
+  pub kept : (i j : ℕ) → LinkedIn links i j → LinkedIn links' i j
+  pub only : (i j : ℕ) → LinkedIn links' i j → LinkedIn links i j ⊎ ((x : ℕ) × (i ≡ tree_no x) × (j ≡ tree_no e) × SameAs ts e x)
+  pub square : Square links'
 
 module _ {ts : List Topology} {twins : List ℕ} {e : ℕ} (L : Linkable ts twins e) where
   pub column : tree_no e < 160
@@ -135,16 +117,16 @@ module _ {ts : List Topology} {twins : List ℕ} {e : ℕ} (L : Linkable ts twin
   pub twin-less : get_or twins e 0 < e
   twin-less = last_less (entry-some L.entry) back-first
 
-  pub back-begins : (links : List ℕ) → Back ts links links e (get_or twins e 0)
-  back-begins links = record {
+  pub back-begins : (links : List (List Bool)) → Square links → Back ts links links e (get_or twins e 0)
+  back-begins links square = record {
     is = back-first.is;
     all = λ x h g s. absurd (back-first.none x h g s);
-    kept = λ i j h l. l;
-    only = λ i j h l. inl l;
-    long = refl;
+    kept = λ i j l. l;
+    only = λ i j l. inl l;
+    square = square;
   }
 
-  module _ {links links' : List ℕ} {q : ℕ} (B : Back ts links links' e q) (some : 0 < q) where
+  module _ {links links' : List (List Bool)} {q : ℕ} (B : Back ts links links' e q) (some : 0 < q) where
     own : SameAs ts e q
     own = (B.is some).1
 
@@ -160,38 +142,43 @@ module _ {ts : List Topology} {twins : List ℕ} {e : ℕ} (L : Linkable ts twin
     pub back-less : get_or twins q 0 < q
     back-less = last_less some back-next
 
-    -- its byte
-    abbrev place : ℕ
-    place = tree_no q * 160 + tree_no e
+    -- its flag is set
+    abbrev marked : List (List Bool)
+    marked = put links' (tree_no q) (tree_no e) true
 
-    pub back-further : length links ≡ link_bytes → Back ts links (set links' place 1) e (get_or twins q 0)
-    back-further bytes = record {
+    pub back-further : Back ts links marked e (get_or twins q 0)
+    back-further = record {
       is = λ h. let (lt, s) = back-next.is h in (omega (arith, (B.is some).0), record { entry = s.entry; same = same-through s.same own.same });
       all = λ x h g s. go x h g s (ℕ_discrete x q) (dec_lt x q);
-      kept = λ i j h l. mark i j (B.kept i j h l);
-      only = λ i j h l. unmark i j h l (ℕ_discrete (i * 160 + j) place);
-      long = simp length-set B.long;
+      kept = λ i j l. mark i j (B.kept i j l);
+      only = λ i j l. unmark i j l (ℕ_discrete i (tree_no q)) (ℕ_discrete j (tree_no e));
+      square = put-square links' (tree_no q) (tree_no e) true B.square row column;
     }
       where
-        inside : place < length links'
-        inside = omega (arith, row, column, B.long, bytes)
+        set : LinkedIn marked (tree_no q) (tree_no e)
+        set = put-here links' (tree_no q) (tree_no e) true B.square row column
 
-        mark : (i j : ℕ) → LinkedIn links' i j → LinkedIn (set links' place 1) i j
-        mark i j l = by (ℕ_discrete (i * 160 + j) place)
+        other : (i j : ℕ) → (i ≡ tree_no q → j ≡ tree_no e → ⊥) → is_linked marked i j ≡ is_linked links' i j
+        other i j n = put-other links' (tree_no q) (tree_no e) true B.square row column i j n
+
+        mark : (i j : ℕ) → LinkedIn links' i j → LinkedIn marked i j
+        mark i j l = by (ℕ_discrete i (tree_no q)) (ℕ_discrete j (tree_no e))
           where
-            by : Dec (i * 160 + j ≡ place) → LinkedIn (set links' place 1) i j
-            by (yes at) = rw at (get_or-set_same links' place 1 0 inside)
-            by (no n) = get_or-set_other links' place (i * 160 + j) 1 0 n ∙ l
+            by : Dec (i ≡ tree_no q) → Dec (j ≡ tree_no e) → LinkedIn marked i j
+            by (yes f) (yes g) = rw (f, g) set
+            by (no n) _ = other i j (λ f g. n f) ∙ l
+            by (yes f) (no n) = other i j (λ f g. n g) ∙ l
 
-        go : (x : ℕ) → get_or twins q 0 < x → x < e → SameAs ts e x → Dec (x ≡ q) → Dec (x < q) → LinkedIn (set links' place 1) (tree_no x) (tree_no e)
-        go x h g s (yes at) _ = rw at (get_or-set_same links' place 1 0 inside)
+        go : (x : ℕ) → get_or twins q 0 < x → x < e → SameAs ts e x → Dec (x ≡ q) → Dec (x < q) → LinkedIn marked (tree_no x) (tree_no e)
+        go x h g s (yes at) _ = rw at set
         go x h g s (no n) (yes lt) = absurd (back-next.none x h lt (record { entry = s.entry; same = same-through s.same (same-turned own.same) }))
         go x h g s (no n) (no le) = mark (tree_no x) (tree_no e) (B.all x (omega arith) g s)
 
-        unmark : (i j : ℕ) → j < max_trees → LinkedIn (set links' place 1) i j → Dec (i * 160 + j ≡ place)
+        unmark : (i j : ℕ) → LinkedIn marked i j → Dec (i ≡ tree_no q) → Dec (j ≡ tree_no e)
             → LinkedIn links i j ⊎ ((x : ℕ) × (i ≡ tree_no x) × (j ≡ tree_no e) × SameAs ts e x)
-        unmark i j h l (yes at) = inr (q, omega (arith, column), omega (arith, column), own)
-        unmark i j h l (no n) = B.only i j h (sym (get_or-set_other links' place (i * 160 + j) 1 0 n) ∙ l)
+        unmark i j l (yes f) (yes g) = inr (q, f, g, own)
+        unmark i j l (no n) _ = B.only i j (sym (other i j (λ f g. n f)) ∙ l)
+        unmark i j l (yes f) (no n) = B.only i j (sym (other i j (λ f g. n g)) ∙ l)
 
-  pub back-ends : {links links' : List ℕ} {q : ℕ} → q ≡ 0 → Back ts links links' e q → LinkedBack ts links links' e
-  back-ends z B = record { all = λ x h s. B.all x (omega (arith, entry-some s.entry)) h s; kept = B.kept; only = B.only; long = B.long }
+  pub back-ends : {links links' : List (List Bool)} {q : ℕ} → q ≡ 0 → Back ts links links' e q → LinkedBack ts links links' e
+  back-ends z B = record { all = λ x h s. B.all x (omega (arith, entry-some s.entry)) h s; kept = B.kept; only = B.only; square = B.square }

@@ -2,6 +2,7 @@
 -- Assumes nothing.
 use mathlib.Core.Path.{◌≡◌, sym, ap, ap₂, subst, subst₂, ◌∙◌}
 use mathlib.Core.Logic.{◌⊎◌, inl, inr}
+use mathlib.Core.Bool.{Bool}
 use mathlib.Core.List.{List}
 use Prim.Native.Nat.{ℕ, ◌+◌, ◌*◌, ◌≤◌, ◌<◌}
 use native.Mathlib.Decide.{ℕ_discrete}
@@ -14,35 +15,37 @@ use Rattle.meaning.specs.Move.{cuts, Apart}
 use Rattle.meaning.specs.Listing.{tree_of}
 use Rattle.meaning.specs.Copies.{first_of, merged, LinkedBy}
 use Rattle.meaning.proofs.Canon.{canon-good, topology-iff-canon}
+use Rattle.std.proofs.lemmas.Bool.{false≢true}
 use Rattle.meaning.proofs.Copies.{first-smallest}
 use Rattle.meaning.proofs.TableText.{good-at}
 use Rattle.meaning.proofs.Unlinked.{copy-canon}
 use Rattle.held.specs.Held.{cut_in}
+use Rattle.held.specs.declared.Table.{Table}
 use Rattle.held.proofs.Cut.{cuts-nodes}
 use Rattle.held.proofs.Laws.{few-nodes}
 use Rattle.pairs.specs.Pair.{SameForest, SharesForest}
 use Rattle.pairs.proofs.Apart.{share-move, move-share}
 use Rattle.prints.proofs.Print.{key-some}
-use Rattle.chains.specs.Chains.{row_entries, Last}
-use Rattle.sharing.specs.Links.{link_bytes, LinkedIn, Shows}
-use Rattle.sharing.specs.Entries.{tree_no, cut_no, forest_at, Entry, SameAs, Keyed, Twins, Linkable, LinkedBack, Sharing, SharesLinked}
+use Rattle.chains.specs.Chains.{row_entries, entries, Found, Last}
+use Rattle.sharing.specs.Links.{Square, LinkedIn, NoneLinked, Shows}
+use Rattle.sharing.specs.Entries.{tree_no, cut_no, forest_at, Entry, SameAs, Keyed, Laid, Seeks, Twins, Linkable, LinkedBack, Sharing, SharesLinked}
 
 -- ---- the entries before e are seen to
-pub record Shared (ts : List Topology) (links twins : List ℕ) (e : ℕ) : Type 0 where
+pub record Shared (ts : List Topology) (links : List (List Bool)) (twins : List ℕ) (e : ℕ) : Type 0 where
   pub shares : SharesLinked ts links e
   pub twinned : Twins ts twins e
 
 -- none is
-pub shared-none : {ts : List Topology} {links twins : List ℕ} → length links ≡ link_bytes → ((place : ℕ) → get_or links place 0 ≡ 0) → Shared ts links twins 1
-shared-none bytes empty = record {
-  shares = record { all = λ q e h g. absurd (omega arith); only = λ i j h l. absurd (omega (arith, l, empty (i * 160 + j))); long = bytes };
+pub shared-none : {ts : List Topology} {links : List (List Bool)} {twins : List ℕ} → Square links → NoneLinked links → Shared ts links twins 1
+shared-none square empty = record {
+  shares = record { all = λ q e h g. absurd (omega arith); only = λ i j l. absurd (false≢true (sym (empty i j) ∙ l)); square = square };
   twinned = λ e E h. absurd (omega (arith, E.node));
 }
 
 -- what has no key is no entry
-pub shared-past : {ts : List Topology} {keys links twins : List ℕ} {e : ℕ} → Keyed ts keys → get_or keys e 0 ≡ 0 → Shared ts links twins e → Shared ts links twins (e + 1)
+pub shared-past : {ts : List Topology} {keys : List ℕ} {links : List (List Bool)} {twins : List ℕ} {e : ℕ} → Keyed ts keys → get_or keys e 0 ≡ 0 → Shared ts links twins e → Shared ts links twins (e + 1)
 shared-past {ts} {keys} {links} {twins} {e} K z S = record {
-  shares = record { all = λ q x h g E s. S.shares.all q x h (passed x g E) E s; only = S.shares.only; long = S.shares.long };
+  shares = record { all = λ q x h g E s. S.shares.all q x h (passed x g E) E s; only = S.shares.only; square = S.shares.square };
   twinned = λ x E h. S.twinned x E (passed x h E);
 }
   where
@@ -61,7 +64,11 @@ entry_of {ts} {keys} {e} K some = go (K.others e)
     go (inl z) = absurd (some z)
     go (inr E) = E
 
-module _ {ts : List Topology} {links twins : List ℕ} {e r : ℕ} (few : length ts ≤ max_trees) (E : Entry ts e) (room : e < length twins) (twin : Last (SameAs ts e) e r)
+pub entry-seeks : {table : Table} {ts : List Topology} {keys same : List ℕ} {end e : ℕ} → Laid table ts keys → Found keys same end → end ≤ entries → e < end
+    → ¬ (get_or keys e 0 ≡ 0) → Seeks ts table keys same end e
+entry-seeks L found few lt some = record { laid = L; found = found; few = few; before = lt; entry = entry_of L.keyed some }
+
+module _ {ts : List Topology} {links : List (List Bool)} {twins : List ℕ} {e r : ℕ} (few : length ts ≤ max_trees) (E : Entry ts e) (room : e < length twins) (twin : Last (SameAs ts e) e r)
     (S : Shared ts links twins e) where
   twins-more : Twins ts (set twins e r) (e + 1)
   twins-more x X h = go (ℕ_discrete x e)
@@ -73,20 +80,20 @@ module _ {ts : List Topology} {links twins : List ℕ} {e r : ℕ} (few : length
   pub twins-linkable : Linkable ts (set twins e r) e
   twins-linkable = record { few = few; entry = E; twinned = twins-more }
 
-  pub shared-more : {links' : List ℕ} → LinkedBack ts links links' e → Shared ts links' (set twins e r) (e + 1)
+  pub shared-more : {links' : List (List Bool)} → LinkedBack ts links links' e → Shared ts links' (set twins e r) (e + 1)
   shared-more {links'} B = record {
-    shares = record { all = λ q x h g X s. go q x h g X s (ℕ_discrete x e); only = λ i j h l. from i j (B.only i j h l) h; long = B.long ∙ S.shares.long };
+    shares = record { all = λ q x h g X s. go q x h g X s (ℕ_discrete x e); only = λ i j l. from i j (B.only i j l); square = B.square };
     twinned = twins-more;
   }
     where
       go : (q x : ℕ) → q < x → x < e + 1 → Entry ts x → SameAs ts x q → Dec (x ≡ e) → LinkedIn links' (tree_no q) (tree_no x)
       go q x h g X s (yes at) =
           subst (λ (y : ℕ). LinkedIn links' (tree_no q) (tree_no y)) (sym at) (B.all q (omega arith) (subst (λ (y : ℕ). SameAs ts y q) at s))
-      go q x h g X s (no n) = B.kept (tree_no q) (tree_no x) (omega (arith, X.inside)) (S.shares.all q x h (omega arith) X s)
+      go q x h g X s (no n) = B.kept (tree_no q) (tree_no x) (S.shares.all q x h (omega arith) X s)
 
-      from : (i j : ℕ) → LinkedIn links i j ⊎ ((q : ℕ) × (i ≡ tree_no q) × (j ≡ tree_no e) × SameAs ts e q) → j < max_trees → Sharing ts i j
-      from i j (inl l) h = S.shares.only i j h l
-      from i j (inr (q, f, g, s)) h = record { one = q; two = e; in_one = f; in_two = g; entry = E; same = s }
+      from : (i j : ℕ) → LinkedIn links i j ⊎ ((q : ℕ) × (i ≡ tree_no q) × (j ≡ tree_no e) × SameAs ts e q) → Sharing ts i j
+      from i j (inl l) = S.shares.only i j l
+      from i j (inr (q, f, g, s)) = record { one = q; two = e; in_one = f; in_two = g; entry = E; same = s }
 
 -- ---- cut c of the first tree i as an entry
 module _ (ts : List Topology) (i c : ℕ) (inside : i < length ts) (good : Good (tree_of ts i)) (cut : c < length (cuts (canon (tree_of ts i)))) where
@@ -114,7 +121,7 @@ module _ (ts : List Topology) (i c : ℕ) (inside : i < length ts) (good : Good 
   }
 
 -- ---- which first positions are linked
-module _ {ts : List Topology} {links : List ℕ} (good : AllGood ts) (few : length ts ≤ max_trees) (S : SharesLinked ts links (length ts * row_entries)) where
+module _ {ts : List Topology} {links : List (List Bool)} (good : AllGood ts) (S : SharesLinked ts links (length ts * row_entries)) where
   -- where they share a forest
   linked-apart : (i j : ℕ) → i < j → j < length ts → Sharing ts i j → LinkedBy merged Apart ts i j
   linked-apart i j h l s =
@@ -146,4 +153,4 @@ module _ {ts : List Topology} {links : List ℕ} (good : AllGood ts) (few : leng
       subst₂ (LinkedIn links) row column (S.all (i * 128 + (c + 1)) (j * 128 + (d + 1)) (omega (arith, row, column)) (omega (arith, column)) two (record { entry = one; same = same }))
 
   pub sharing-shows : Shows links (length ts) (LinkedBy merged Apart ts)
-  sharing-shows i j h l = (λ x. linked-apart i j h l (S.only i j (omega (arith, few)) x), apart-linked i j h l)
+  sharing-shows i j h l = (λ x. linked-apart i j h l (S.only i j x), apart-linked i j h l)

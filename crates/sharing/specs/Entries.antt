@@ -1,20 +1,18 @@
 -- The cuts of a table's first trees as numbered entries: their forests and keys, and what is found of those with the same forest.
 -- Assumes nothing.
-use Rattle.std.specs.Prelude.{◌≡◌, ◌⊎◌, List, ℕ, ◌+◌, ◌-◌, ◌*◌, ◌/◌, ◌%◌, ◌≤◌, ◌<◌, length, get_or}
-use Rattle.meaning.specs.Limits.{max_nodes, max_trees}
-use Rattle.meaning.specs.Tree.{Tree as Topology, AllGood, canon}
+use Rattle.std.specs.Prelude.{◌≡◌, ◌⊎◌, Bool, List, ℕ, ◌+◌, ◌-◌, ◌/◌, ◌%◌, ◌≤◌, ◌<◌, length, get_or}
+use Rattle.meaning.specs.Limits.{max_trees}
+use Rattle.meaning.specs.Tree.{Tree as Topology, canon}
 use Rattle.meaning.specs.Move.{Cut, cuts}
 use Rattle.meaning.specs.Listing.{tree_of}
 use Rattle.meaning.specs.Copies.{first_of}
-use Rattle.held.specs.Held.{hold, cut_in}
-use Rattle.held.specs.Kept.{Kept, KeptAll}
+use Rattle.held.specs.Held.{cut_in}
+use Rattle.held.specs.Kept.{KeepsAll, KeptAll}
 use Rattle.held.specs.declared.Table.{Table}
-use Rattle.held.specs.declared.Tree.{Tree}
 use Rattle.pairs.specs.Pair.{SameForest}
 use Rattle.prints.specs.Print.{key}
-use Rattle.prints.specs.Keys.{KeysNoted}
 use Rattle.chains.specs.Chains.{row_entries, entries, Last, Found}
-use Rattle.sharing.specs.Links.{link_bytes, LinkedIn}
+use Rattle.sharing.specs.Links.{Square, LinkedIn, NoneLinked}
 use Rattle.sharing.specs.Firsts.{FirstsNoted}
 
 -- ---- entries
@@ -42,68 +40,46 @@ pub record SameAs (ts : List Topology) (e q : ℕ) : Type 0 where
   pub entry : Entry ts q
   pub same : SameForest (forest_at ts q) (forest_at ts e)
 
--- ---- their trees and keys
--- the row of each first tree has its bytes
-pub record Rows (ts : List Topology) (nodes : List ℕ) : Type 0 where
-  pub good : AllGood ts
-  pub few : length ts ≤ max_trees
-  pub long : length nodes ≡ entries
-  pub bytes : (i : ℕ) → i < length ts → first_of ts i ≡ i → (p : ℕ) → p < max_nodes → get_or nodes (i * row_entries + p) 0 ≡ get_or (hold (canon (tree_of ts i))) p 0
-
+-- ---- their keys
 -- an entry has the key of its forest, and all else has 0
 pub record Keyed (ts : List Topology) (keys : List ℕ) : Type 0 where
   pub own : (e : ℕ) → Entry ts e → get_or keys e 0 ≡ key (forest_at ts e)
   pub others : (e : ℕ) → (get_or keys e 0 ≡ 0) ⊎ Entry ts e
 
--- both
-pub record Laid (ts : List Topology) (nodes keys : List ℕ) : Type 0 where
-  pub rows : Rows ts nodes
+-- of the trees that the table keeps
+pub record Laid (table : Table) (ts : List Topology) (keys : List ℕ) : Type 0 where
+  pub kept : KeepsAll table ts
   pub keyed : Keyed ts keys
 
--- the record keeps a tree, and there is room for row i
-pub record RowRoom (tree : Tree) (nodes keys : List ℕ) (i : ℕ) : Type 0 where
-  pub kept : Kept tree
-  pub few : i < max_trees
-  pub nodes_room : length nodes ≡ entries
-  pub keys_room : length keys ≡ entries
-
--- row i has the bytes of t and the keys of its cuts, and the rows before it are as they were
-pub record RowLaid (t : Topology) (nodes nodes' keys keys' : List ℕ) (i : ℕ) : Type 0 where
-  pub bytes : (p : ℕ) → p < max_nodes → get_or nodes' (i * row_entries + p) 0 ≡ get_or (hold t) p 0
-  pub before : (p : ℕ) → p < i * row_entries → get_or nodes' p 0 ≡ get_or nodes p 0
-  pub long : length nodes' ≡ length nodes
-  pub noted : KeysNoted t keys keys' (i * row_entries)
-
--- the table keeps some trees, whose firsts are noted, and there is room for their rows, with no key yet
-pub record LayRoom (table : Table) (firsts nodes keys : List ℕ) : Type 0 where
+-- the table keeps some trees, whose firsts are noted, and there is room for their keys, of which there is none yet
+pub record LayRoom (table : Table) (firsts keys : List ℕ) : Type 0 where
   pub kept : KeptAll table
   pub noted : FirstsNoted table firsts
   pub lent : max_trees ≤ length firsts
-  pub nodes_room : length nodes ≡ entries
   pub keys_room : length keys ≡ entries
   pub none : (e : ℕ) → get_or keys e 0 ≡ 0
 
 -- ---- comparing entries
--- e is an entry of some trees whose rows these are
-pub record EntryIn (nodes : List ℕ) (e : ℕ) : Type 0 where
+-- e is an entry of the trees that the table keeps
+pub record EntryIn (table : Table) (e : ℕ) : Type 0 where
   pub trees : List Topology
-  pub rows : Rows trees nodes
+  pub kept : KeepsAll table trees
   pub entry : Entry trees e
 
 -- e is one of the entries before `end`, each of which has beside it the last one before it with the same key
-pub record Seeks (ts : List Topology) (nodes keys same : List ℕ) (end e : ℕ) : Type 0 where
-  pub laid : Laid ts nodes keys
+pub record Seeks (ts : List Topology) (table : Table) (keys same : List ℕ) (end e : ℕ) : Type 0 where
+  pub laid : Laid table ts keys
   pub found : Found keys same end
   pub few : end ≤ entries
   pub before : e < end
   pub entry : Entry ts e
 
 -- so for some trees and keys
-pub record Seekable (nodes same : List ℕ) (e : ℕ) : Type 0 where
+pub record Seekable (table : Table) (same : List ℕ) (e : ℕ) : Type 0 where
   pub trees : List Topology
   pub keys : List ℕ
   pub end : ℕ
-  pub seeks : Seeks trees nodes keys same end e
+  pub seeks : Seeks trees table keys same end e
 
 -- beside each entry before `end` is the last one before it with the same forest
 abbrev pub Twins : List Topology → List ℕ → ℕ → Type 0
@@ -116,18 +92,18 @@ pub record Linkable (ts : List Topology) (twins : List ℕ) (e : ℕ) : Type 0 w
   pub entry : Entry ts e
   pub twinned : Twins ts twins (e + 1)
 
--- so for some trees, and there is a byte for each two positions
-pub record LinkRoom (links twins : List ℕ) (e : ℕ) : Type 0 where
+-- so for some trees, and there is a flag for each two positions
+pub record LinkRoom (links : List (List Bool)) (twins : List ℕ) (e : ℕ) : Type 0 where
   pub trees : List Topology
   pub linkable : Linkable trees twins e
-  pub bytes : length links ≡ link_bytes
+  pub square : Square links
 
 -- the tree of e was linked to those that have its forest at an entry before, and nothing else has changed
-pub record LinkedBack (ts : List Topology) (links links' : List ℕ) (e : ℕ) : Type 0 where
+pub record LinkedBack (ts : List Topology) (links links' : List (List Bool)) (e : ℕ) : Type 0 where
   pub all : (q : ℕ) → q < e → SameAs ts e q → LinkedIn links' (tree_no q) (tree_no e)
-  pub kept : (i j : ℕ) → j < max_trees → LinkedIn links i j → LinkedIn links' i j
-  pub only : (i j : ℕ) → j < max_trees → LinkedIn links' i j → LinkedIn links i j ⊎ ((q : ℕ) × (i ≡ tree_no q) × (j ≡ tree_no e) × SameAs ts e q)
-  pub long : length links' ≡ length links
+  pub kept : (i j : ℕ) → LinkedIn links i j → LinkedIn links' i j
+  pub only : (i j : ℕ) → LinkedIn links' i j → LinkedIn links i j ⊎ ((q : ℕ) × (i ≡ tree_no q) × (j ≡ tree_no e) × SameAs ts e q)
+  pub square : Square links'
 
 -- i and j are trees with entries of the same forest
 pub record Sharing (ts : List Topology) (i j : ℕ) : Type 0 where
@@ -139,16 +115,16 @@ pub record Sharing (ts : List Topology) (i j : ℕ) : Type 0 where
   pub same : SameAs ts two one
 
 -- the trees of entries before `end` are linked exactly where they share a forest
-pub record SharesLinked (ts : List Topology) (links : List ℕ) (end : ℕ) : Type 0 where
+pub record SharesLinked (ts : List Topology) (links : List (List Bool)) (end : ℕ) : Type 0 where
   pub all : (q e : ℕ) → q < e → e < end → Entry ts e → SameAs ts e q → LinkedIn links (tree_no q) (tree_no e)
-  pub only : (i j : ℕ) → j < max_trees → LinkedIn links i j → Sharing ts i j
-  pub long : length links ≡ link_bytes
+  pub only : (i j : ℕ) → LinkedIn links i j → Sharing ts i j
+  pub square : Square links
 
--- some trees' rows and keys, with the last entry of the same key beside each, and bytes that link none
-pub record ShareRoom (links nodes keys same : List ℕ) (end : ℕ) : Type 0 where
+-- some trees' keys, with the last entry of the same key beside each, and flags that link none
+pub record ShareRoom (links : List (List Bool)) (table : Table) (keys same : List ℕ) (end : ℕ) : Type 0 where
   pub trees : List Topology
-  pub laid : Laid trees nodes keys
+  pub laid : Laid table trees keys
   pub found : Found keys same end
   pub few : end ≤ entries
-  pub bytes : length links ≡ link_bytes
-  pub empty : (place : ℕ) → get_or links place 0 ≡ 0
+  pub square : Square links
+  pub empty : NoneLinked links

@@ -1,25 +1,30 @@
--- Which positions are linked, as bytes.
+-- Which positions are linked, as flags.
 -- Assumes nothing.
-use Rattle.std.specs.Prelude.{◌≡◌, ◌↔◌, Bool, List, ℕ, ◌+◌, ◌*◌, ◌<◌, eqb, get_or}
+use Rattle.std.specs.Prelude.{◌≡◌, ◌↔◌, Bool, true, false, List, [], ℕ, ◌<◌, length, get_or}
 use Rattle.meaning.specs.Limits.{max_trees}
 use Rattle.meaning.specs.Tree.{Tree as Topology}
 use Rattle.held.specs.Kept.{KeepsAll}
 use Rattle.held.specs.declared.Table.{Table}
 
--- a byte for each two positions of a table
-abbrev pub link_bytes : ℕ
-link_bytes = max_trees * max_trees
+-- a row for each position of a table, and in it a flag for each
+pub record Square (links : List (List Bool)) : Type 0 where
+  pub rows : length links ≡ max_trees
+  pub columns : (i : ℕ) → i < max_trees → length (get_or links i []) ≡ max_trees
 
--- the byte of row i and column j is 1
-abbrev pub LinkedIn : List ℕ → ℕ → ℕ → Type 0
-LinkedIn links i j = get_or links (i * max_trees + j) 0 ≡ 1
+-- the flag of row i and column j
+abbrev pub is_linked : List (List Bool) → ℕ → ℕ → Bool
+is_linked links i j = get_or (get_or links i []) j false
 
--- the same as a test
-abbrev pub is_linked : List ℕ → ℕ → ℕ → Bool
-is_linked links i j = eqb (get_or links (i * max_trees + j) 0) 1
+-- it is set
+abbrev pub LinkedIn : List (List Bool) → ℕ → ℕ → Type 0
+LinkedIn links i j = is_linked links i j ≡ true
 
--- among k positions the bytes show which are linked by L
-abbrev pub Shows : List ℕ → ℕ → (ℕ → ℕ → Type 0) → Type 0
+-- no flag is
+abbrev pub NoneLinked : List (List Bool) → Type 0
+NoneLinked links = (i j : ℕ) → is_linked links i j ≡ false
+
+-- among k positions the flags show which are linked by L
+abbrev pub Shows : List (List Bool) → ℕ → (ℕ → ℕ → Type 0) → Type 0
 Shows links k L = (i j : ℕ) → i < j → j < k → LinkedIn links i j ↔ L i j
 
 -- P is so of whatever trees the table keeps

@@ -11,11 +11,10 @@ use Rattle.meaning.specs.Sheet.{refusal_line, Printout, prints}
 use Rattle.lent.specs.Runs.{Wrote}
 use Rattle.lent.proofs.Runs.{sets-start, wrote-length}
 use Rattle.held.specs.Kept.{KeepsTrees}
-use Rattle.tables.specs.Lent.{TableLent}
+use Rattle.tokens.specs.Paper.{number_of, refusal_of}
 use Rattle.tokens.specs.declared.Refusal.{Refusal}
-use Rattle.tokens.specs.declared.Step.TheVariants.{Next, Refused}
-use Rattle.tables.specs.declared.TableRead.{TableRead}
-use Rattle.tables.proofs.Lent.{Given, lent-next, lent-refused}
+use Rattle.held.specs.declared.Table.{Table}
+use Rattle.tables.specs.Lent.{Given}
 use Rattle.sheet.specs.Printed.{TableFits, ShownAll, Printed}
 
 -- a program prints at most `most` bytes, of which there is room
@@ -29,25 +28,21 @@ module _ {Prints : Trees → List ℕ → Type 0} {most : ℕ} (s out : List ℕ
     memory = w.cells ∙ sets-start out x (omega (arith, fits x h, room));
   }
 
-  module _ {read : TableRead} (m : TableLent read (table_read either s)) where
-    -- a text that is refused
-    module _ {x : Refusal} (e : read.step ≡ Refused x) where
-      refused-prints : Printout Prints s (refusal_line x.number x.place)
-      refused-prints = Printout.refuses x.number x.text x.place (lent-refused m e)
+  -- a text that is refused
+  module _ (x : Refusal) (e : table_read either s ≡ refusal_of x) where
+    refused-prints : Printout Prints s (refusal_line (number_of x.reason) x.place)
+    refused-prints = Printout.refuses (number_of x.reason) x.text x.place e
 
-      pub refusal-room : length (refusal_line x.number x.place) ≤ length out
-      refusal-room = omega (arith, fits (refusal_line x.number x.place) refused-prints, room)
+    pub refusal-room : length (refusal_line (number_of x.reason) x.place) ≤ length out
+    refusal-room = omega (arith, fits (refusal_line (number_of x.reason) x.place) refused-prints, room)
 
-      pub refusal-printed : {out' : List ℕ} {r : ℕ} → Wrote (refusal_line x.number x.place) out out' 0 r → Printed Prints s out out' r
-      refusal-printed w = printed refused-prints w
+    pub refusal-printed : {out' : List ℕ} {r : ℕ} → Wrote (refusal_line (number_of x.reason) x.place) out out' 0 r → Printed Prints s out out' r
+    refusal-printed w = printed refused-prints w
 
-    -- the trees of a text that is accepted
-    module _ {p k : ℕ} (e : read.step ≡ Next p k) where
-      taken : Given (λ ts. length ts.trees) (KeepsTrees read.table) (table_read either s) k
-      taken = lent-next m e
+  -- the trees of a text that is accepted
+  module _ {table : Table} (R : Given (table_read either s) (KeepsTrees table)) where
+    pub table_fits : TableFits table most (length out)
+    table_fits = record { kept = record { trees = R.value; keeps = R.keeps }; room = room }
 
-      pub table_fits : TableFits read.table most (length out)
-      table_fits = record { kept = record { trees = taken.value; keeps = taken.keeps }; room = room }
-
-      pub table-printed : {out' : List ℕ} {r : ℕ} → ShownAll Prints read.table out out' r → Printed Prints s out out' r
-      table-printed all = let w = all taken.value taken.keeps in printed (prints taken.value w.bytes taken.is w.shows) w.wrote
+    pub table-printed : {out' : List ℕ} {r : ℕ} → ShownAll Prints table out out' r → Printed Prints s out out' r
+    table-printed all = let w = all R.value R.keeps in printed (prints R.value w.bytes R.is w.shows) w.wrote

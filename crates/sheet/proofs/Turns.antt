@@ -2,13 +2,13 @@
 -- Assumes nothing.
 use mathlib.Core.Path.{◌≡◌, refl, ap, ap₂}
 use mathlib.Core.List.{List, [], ◌∷◌, ◌++◌, Memᴰ}
-use Prim.Native.Nat.{ℕ, suc, ◌+◌, ◌*◌, ◌≤◌, ◌<◌}
+use Prim.Native.Nat.{ℕ, suc, ◌+◌, ◌/◌, ◌≤◌, ◌<◌}
 use native.Mathlib.Omega.{arith}
 use lib.ListN.{length, take, get_or, replicate}
 use Rattle.meaning.specs.Limits.{max_trees}
 use Rattle.meaning.specs.Tree.{Tree as Topology, leaf, Good, AllGood}
 use Rattle.meaning.specs.Kind.{Kinded, Trees}
-use Rattle.meaning.specs.Listing.{Pair, tree_of, unlinked}
+use Rattle.meaning.specs.Listing.{Pair, tree_of, unlinked, flat}
 use Rattle.meaning.specs.Sheet.{tree_line, tree_line_of, tree_lines, pair_line, pair_lines}
 use Rattle.meaning.specs.IslandSheet.{line_at, lines_from}
 use Rattle.meaning.proofs.Unlinked.{unlinked-neighbours-copies}
@@ -16,8 +16,8 @@ use Rattle.lent.specs.Runs.{Wrote}
 use Rattle.held.specs.Kept.{KeepsKind, KeptKindRoom, held_at}
 use Rattle.held.specs.declared.Table.{Table}
 use Rattle.held.proofs.Kept.{keeps-good, keeps-kinded}
-use Rattle.graph.specs.Listed.{PairsListed}
-use Rattle.graph.proofs.Listed.{pair_at, pair-first, pair-second}
+use Rattle.std.specs.Simd.{first_chunks}
+use Rattle.graph.proofs.Listed.{chunks-many, chunk-at}
 use Rattle.sheet.specs.Lines.{TreesListed, unlinked_numbers, TreeLinesFit, PairLinesFit}
 use Rattle.sheet.proofs.Listed.{inside, counted}
 use Rattle.sheet.proofs.Unlinked.{written_at}
@@ -99,28 +99,28 @@ unfolding pair_lines
 pairs-rows i [] = refl
 pairs-rows i (p ∷ ps) = ap (λ (l : List ℕ). pair_line p.0 p.1 ++ l) (pairs-rows (suc i) ps)
 
--- the pair of a turn
-pair_is : {numbers : List ℕ} {m : ℕ} {ps : List Pair} → PairsListed numbers m ps → (i : ℕ) → i < m → pair_line (get_or numbers (2 * i) 0) (get_or numbers (2 * i + 1) 0) ≡ pair_row i (pair_at ps i)
-pair_is L i h = ap₂ pair_line (pair-first L i h) (pair-second L i h)
+-- the line of a turn's pair
+abbrev pub line_of : List ℕ → List ℕ
+line_of p = pair_line (get_or p 0 0) (get_or p 1 0)
 
 -- the lines of the first i pairs are written
-abbrev pub PairsSoFar : List ℕ → ℕ → List ℕ → List ℕ → ℕ → ℕ → ℕ → Type 0
-PairsSoFar numbers m out o₁ at next i = (ps : List Pair) → PairsListed numbers m ps → Wrote (rows pair_row 0 (take i ps)) out o₁ at next
+abbrev pub PairsSoFar : List ℕ → List ℕ → List ℕ → ℕ → ℕ → ℕ → Type 0
+PairsSoFar numbers out o₁ at next i = (ps : List Pair) → numbers ≡ flat ps → Wrote (rows pair_row 0 (take i ps)) out o₁ at next
 
-module _ {numbers out o₁ : List ℕ} {m at next i : ℕ} (w : PairsSoFar numbers m out o₁ at next i) where
-  module _ (h : i < m) where
-    pub pair_fits : PairLinesFit numbers m at (length out) → next + length (pair_line (get_or numbers (2 * i) 0) (get_or numbers (2 * i + 1) 0)) ≤ length o₁
-    pair_fits f =
-        let L = f.listed in
-        rw (pair_is L i h) (turn-room pair_row (0, 0) f.linked i (omega (arith, L.many)) (w f.linked L) (rw (← pairs-rows 0 f.linked) f.room))
+module _ {numbers out o₁ : List ℕ} {at next i : ℕ} (w : PairsSoFar numbers out o₁ at next i) {chunks : List (List ℕ)} (f : chunks ≡ first_chunks 2 (length numbers / 2) numbers) where
+  module _ (h : i < length chunks) where
+    pub pair_fits : PairLinesFit numbers at (length out) → next + length (line_of (get_or chunks i [])) ≤ length o₁
+    pair_fits p =
+        let e = p.listed in
+        rw (chunk-at p.linked e f i h) (turn-room pair_row (0, 0) p.linked i (omega (arith, chunks-many p.linked e f)) (w p.linked e) (rw (← pairs-rows 0 p.linked) p.room))
 
-    pub pairs-more : {o₂ : List ℕ} {r : ℕ} → Wrote (pair_line (get_or numbers (2 * i) 0) (get_or numbers (2 * i + 1) 0)) o₁ o₂ next r → PairsSoFar numbers m out o₂ at r (i + 1)
-    pairs-more one ps L = turn-wrote pair_row (0, 0) ps i (omega (arith, L.many)) (w ps L) (rw (pair_is L i h) at one)
+    pub pairs-more : {o₂ : List ℕ} {r : ℕ} → Wrote (line_of (get_or chunks i [])) o₁ o₂ next r → PairsSoFar numbers out o₂ at r (i + 1)
+    pairs-more one ps e = turn-wrote pair_row (0, 0) ps i (omega (arith, chunks-many ps e f)) (w ps e) (rw (chunk-at ps e f i h) at one)
 
-  pub pairs-done : i ≤ m → m ≤ i → (ps : List Pair) → PairsListed numbers m ps → Wrote (pair_lines ps) out o₁ at next
-  pairs-done h l ps L =
-      let all : i ≡ length ps = omega (arith, L.many) in
-      rw (pairs-rows 0 ps) (turns-wrote pair_row ps all (w ps L))
+  pub pairs-done : i ≤ length chunks → length chunks ≤ i → (ps : List Pair) → numbers ≡ flat ps → Wrote (pair_lines ps) out o₁ at next
+  pairs-done h l ps e =
+      let all : i ≡ length ps = omega (arith, chunks-many ps e f) in
+      rw (pairs-rows 0 ps) (turns-wrote pair_row ps all (w ps e))
 
 -- ---- islands
 -- their lines are rows

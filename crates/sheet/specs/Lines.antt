@@ -1,12 +1,12 @@
 -- What the writers of the sheet ask of the trees and pairs that are held, and of the room for their lines.
 -- Assumes nothing.
-use Rattle.std.specs.Prelude.{List, map, ℕ, ◌+◌, ◌≤◌, length}
+use Rattle.std.specs.Prelude.{◌≡◌, List, map, ℕ, ◌+◌, ◌≤◌, length}
 use Rattle.meaning.specs.Limits.{sheet_bytes}
 use Rattle.meaning.specs.Lists.{positions}
 use Rattle.meaning.specs.Tree.{Tree as Topology}
 use Rattle.meaning.specs.Kind.{Trees}
 use Rattle.meaning.specs.EitherKind.{ApartAs}
-use Rattle.meaning.specs.Listing.{Pair, Listing, At, counts, unlinked}
+use Rattle.meaning.specs.Listing.{Pair, Listing, At, flat, counts, unlinked}
 use Rattle.meaning.specs.Sheet.{tree_lines, pair_lines}
 use Rattle.meaning.specs.Copies.{firsts_of}
 use Rattle.lent.specs.Runs.{Stands}
@@ -39,10 +39,10 @@ pub record TreeLinesFit (table : Table) (numbers firsts : List ℕ) (at len : �
   pub listed : TreesListed table numbers firsts trees linked
   pub room : at + length (tree_lines trees linked 0 trees.trees) ≤ len
 
--- `numbers` begins with m pairs, and there is room for their lines
-pub record PairLinesFit (numbers : List ℕ) (m at len : ℕ) : Type 0 where
+-- the numbers are pairs, and there is room for their lines
+pub record PairLinesFit (numbers : List ℕ) (at len : ℕ) : Type 0 where
   pub linked : List Pair
-  pub listed : PairsListed numbers m linked
+  pub listed : numbers ≡ flat linked
   pub room : at + length (pair_lines linked) ≤ len
 
 -- the trees of a table, their pairs and neighbour counts, and room for the longest sheet

@@ -8,7 +8,6 @@ ghost use Rattle.sheet.specs.Printed.{TableFits, ShownAll, Printed};
 
 use held::Table;
 use reading::Takes;
-use tokens::Step;
 
 // The home of the sheet's size.
 #[derive(Drop)]
@@ -30,6 +29,7 @@ fn write_island_lines(out: &mut [u8], numbers: &[u16], n: usize) -> usize
     let mut sizes = [0u16; Table::MAX_TREES];
     lent::tally(&mut sizes, numbers, n);
     let mut next = 0;
+    // The number i is what is compared and printed.
     for i in 0..n {
         if numbers[i] as usize == i {
             next = writing::write_island_line(out, next, i, sizes[i] as usize);
@@ -55,10 +55,8 @@ fn write_table_islands(out: &mut [u8], table: Table) -> usize
 pub fn print_islands(s: &[u8], out: &mut [u8; IslandSheet::MAX_BYTES]) -> usize
     ensures { Printed IslandSheetOf s.now out.old out.new result }
 {
-    let read = tables::read_lent_table(s, true, Takes::Either);
-    let step = read.step;
-    match step {
-        Step::Refused(x) => super::print_refusal(out, x),
-        Step::Next(_, _) => write_table_islands(out, read.table),
+    match tables::read_lent_table(s, true, Takes::Either) {
+        Ok(table) => write_table_islands(out, table),
+        Err(x) => super::print_refusal(out, x),
     }
 }

@@ -3,13 +3,14 @@
 // place behind what it wrote.
 pub mod islands;
 
-ghost use Rattle.std.specs.Prelude.{List, ◌≤◌, length};
+ghost use Rattle.std.specs.Prelude.{◌≡◌, List, ◌≤◌, length};
 ghost use Rattle.meaning.specs.Limits.{sheet_bytes};
 ghost use Rattle.meaning.specs.Kind.{Trees};
-ghost use Rattle.meaning.specs.Listing.{Pair};
+ghost use Rattle.meaning.specs.Listing.{Pair, flat};
 ghost use Rattle.meaning.specs.Sheet.{refusal_line, tree_lines, pair_lines, sheet, SheetOf};
 ghost use Rattle.lent.specs.Runs.{Wrote};
 ghost use Rattle.graph.specs.Listed.{PairsListed};
+ghost use Rattle.tokens.specs.Paper.{number_of};
 ghost use Rattle.sheet.specs.Lines.{TreesListed, UnlinkedRoom, unlinked_numbers, TreeLinesFit, PairLinesFit, SheetFits};
 ghost use Rattle.sheet.specs.Printed.{TableFits, ShownAll, Printed};
 
@@ -17,7 +18,7 @@ use held::{Table, Tree};
 pub use islands::{IslandSheet, print_islands};
 use links::Copies;
 use reading::Takes;
-use tokens::{Refusal, Step};
+use tokens::Refusal;
 
 // The home of the sheet's size.
 #[derive(Drop)]
@@ -47,6 +48,7 @@ fn note_unlinked(unlinked: &mut [u16], counts: &[u16], firsts: &[u16], table: Ta
     let n = table.len;
     let mut copies = [0u16; Table::MAX_TREES];
     lent::tally(&mut copies, firsts, n);
+    // Three arrays at one index, of which one is written: a zip of them is longer.
     for i in 0..n {
         let linked = counts[i] as usize;
         let same = copies[firsts[i] as usize] as usize;
@@ -70,6 +72,7 @@ fn write_tree_lines(
     let mut unlinked = [0u16; Table::MAX_TREES];
     note_unlinked(&mut unlinked, counts, firsts, table);
     let mut next = at;
+    // Three arrays at one index, which is written too: a zip of them is longer.
     for i in 0..table.len {
         let neighbours = counts[i] as usize;
         let others = unlinked[i] as usize;
@@ -78,19 +81,14 @@ fn write_tree_lines(
     next
 }
 
-// Writes a line for each of m pairs; the numbers in `pairs` begin with i and j of each.
-fn write_pair_lines(out: &mut [u8], at: usize, pairs: &[u16], m: usize) -> usize
-    requires { PairLinesFit pairs.now m at (length out.old) }
-    ensures { (ps : List Pair) → PairsListed pairs.now m ps → Wrote (pair_lines ps) out.old out.new at result }
+// Writes a line for each pair; `pairs` are i and j of each.
+fn write_pair_lines(out: &mut [u8], at: usize, pairs: &[u16]) -> usize
+    requires { PairLinesFit pairs.now at (length out.old) }
+    ensures { (ps : List Pair) → pairs.now ≡ flat ps → Wrote (pair_lines ps) out.old out.new at result }
 {
     let mut next = at;
-    for i in 0..m {
-        next = writing::write_pair_line(
-            out,
-            next,
-            pairs[2 * i] as usize,
-            pairs[2 * i + 1] as usize,
-        );
+    for &[i, j] in pairs.as_chunks::<2>().0 {
+        next = writing::write_pair_line(out, next, i as usize, j as usize);
     }
     next
 }
@@ -111,7 +109,7 @@ fn write_sheet(
 {
     let trees = writing::write_first_line(out, 0, table.len, m);
     let links = write_tree_lines(out, trees, table, counts, firsts);
-    write_pair_lines(out, links, pairs, m)
+    write_pair_lines(out, links, &pairs[..2 * m])
 }
 
 // Lists the pairs of the table's trees in memory of its own, with copies kept apart, and writes their sheet.
@@ -134,10 +132,10 @@ fn write_table_sheet(out: &mut [u8], table: Table) -> usize
 
 // Writes the line of a refusal, which is all that is printed for a text that is refused.
 fn print_refusal(out: &mut [u8], x: Refusal) -> usize
-    requires { length (refusal_line x.number x.place) ≤ length out.old }
-    ensures { Wrote (refusal_line x.number x.place) out.old out.new 0 result }
+    requires { length (refusal_line (number_of x.reason) x.place) ≤ length out.old }
+    ensures { Wrote (refusal_line (number_of x.reason) x.place) out.old out.new 0 result }
 {
-    writing::write_refusal(out, 0, lent::wide(x.number), x.place)
+    writing::write_refusal(out, 0, usize::from(x.reason.number()), x.place)
 }
 
 // Writes what the pair lister prints for the text s from the start of `out` on; returns the number of its bytes.
@@ -145,15 +143,14 @@ pub fn print_sheet(s: &[u8], out: &mut [u8]) -> usize
     requires { sheet_bytes ≤ length out.old }
     ensures { Printed SheetOf s.now out.old out.new result }
 {
-    let read = tables::read_lent_table(s, true, Takes::Either);
-    let step = read.step;
-    match step {
-        Step::Refused(x) => print_refusal(out, x),
-        Step::Next(_, _) => write_table_sheet(out, read.table),
+    match tables::read_lent_table(s, true, Takes::Either) {
+        Ok(table) => write_table_sheet(out, table),
+        Err(x) => print_refusal(out, x),
     }
 }
 
 // The same, in memory of the stated size.
+// docs/READING.md names it and its clause; `sheet_call` needs `print_sheet`, as C lends a slice of any length.
 pub fn sheet_of(s: &[u8], out: &mut [u8; Sheet::MAX_BYTES]) -> usize
     ensures { Printed SheetOf s.now out.old out.new result }
 {

@@ -1,5 +1,6 @@
 -- Whether bytes hold a good tree in canonical order: what each way out of the walk tells.
 -- Assumes nothing.
+use Rattle.std.specs.Prelude.{Option, Some, None}
 use mathlib.Core.Path.{◌≡◌, refl, sym, ap, ap₂, ◌∙◌, subst}
 use mathlib.Core.List.{List, ◌∷◌, ◌++◌, append_assoc}
 use Prim.Native.Nat.{ℕ, suc, ◌+◌, ◌*◌, ◌-◌, ◌%◌, ◌^◌, ◌≤◌, ◌<◌}
@@ -20,7 +21,7 @@ use Rattle.meaning.proofs.Clade.{clade-some, disjoint-clade, lowest-least}
 use Rattle.lent.proofs.Runs.{drop-run}
 use Rattle.held.specs.Held.{Holds, nodes, pre}
 use Rattle.held.proofs.Laws.{twice, leafed, forked, within, unique, length-pre}
-use Rattle.slot_check.specs.Slot.{claim, Fits, Joined, joins, unfit, InOrder, Tells, tells, none}
+use Rattle.slot_check.specs.Slot.{claim, Claims, Fits, Joined, joins, unfit, InOrder, Tells, tells, none}
 
 -- ---- what a byte claims
 pub claim-zero : (b : ℕ) → b ≡ 0 → claim b ≡ 0
@@ -31,6 +32,16 @@ claim-leaf b h l = rw (ne_eqb b 0 (omega arith), le-leb b 64 l)
 
 pub claim-fork : (b : ℕ) → 64 < b → claim b ≡ b - 64
 claim-fork b h = rw (ne_eqb b 0 (omega arith), lt-leb b 64 h)
+
+-- a byte that claims none is 0
+pub claims-none : (b : ℕ) → b ≡ 0 → Claims b None
+claims-none b e = claim-zero b e
+
+pub claims-one : (b : ℕ) → 1 ≤ b → b ≤ 64 → Claims b (Some 1)
+claims-one b h l = (omega arith, sym (claim-leaf b h l))
+
+pub claims-more : (b : ℕ) → 64 < b → Claims b (Some (b - 64))
+claims-more b h = (omega arith, sym (claim-fork b h))
 
 -- the measure of the walk is at most that
 pub claim-ge : (b : ℕ) → b - 64 ≤ claim b
@@ -75,10 +86,16 @@ good-fork {a} {b} G H f = record { distinct = (G.distinct, H.distinct, f); small
 shifted : (b : ℕ) → b ≤ 64 → (1 * 2 ^ (b - 1)) % 18446744073709551616 ≡ 2 ^ (b - 1)
 shifted b h = shl_exact {a = 1} 1 (b - 1) 64 (lit< tt) (omega arith) ∙ one-mul (2 ^ (b - 1))
 
+-- what is told, and that nothing is
+pub found : {P : ℕ → Type 0} {r : ℕ} → Tells P (Some r) → P r
+found (tells p) = p
+
+pub nothing : {P : ℕ → Type 0} → Tells P None → (l : ℕ) → P l → ⊥
+nothing (none f) = f
+
 -- a clade is told once
-pub told : {xs : List ℕ} {k l r : ℕ} → Tells (InOrder xs k) r → InOrder xs k l → r ≡ l
-told (tells o) p = sym o.labels ∙ ap clade (unique o.holds p.holds) ∙ p.labels
-told {l} (none e f) p = absurd (f l p)
+pub told : {xs : List ℕ} {k l r : ℕ} → Tells (InOrder xs k) (Some r) → InOrder xs k l → r ≡ l
+told T p = let o = found T in sym o.labels ∙ ap clade (unique o.holds p.holds) ∙ p.labels
 
 -- the two children of a tree in order that is a fork
 record Split (xs : List ℕ) (k : ℕ) : Type 0 where
@@ -92,14 +109,14 @@ record Split (xs : List ℕ) (k : ℕ) : Type 0 where
 
 module _ (xs : List ℕ) (k : ℕ) where
   -- behind the end, and at 0
-  pub tells-end : length xs ≤ k → Tells (InOrder xs k) 0
-  tells-end h = none refl (λ l o. omega (arith, within o.holds))
+  pub tells-end : length xs ≤ k → Tells (InOrder xs k) None
+  tells-end h = none (λ l o. omega (arith, within o.holds))
 
-  pub tells-zero : get_or xs k 0 ≡ 0 → Tells (InOrder xs k) 0
-  tells-zero e = none refl (λ l o. omega (arith, held-label o.holds (omega arith)))
+  pub tells-zero : get_or xs k 0 ≡ 0 → Tells (InOrder xs k) None
+  tells-zero e = none (λ l o. omega (arith, held-label o.holds (omega arith)))
 
   -- at a label
-  pub tells-leaf : k < length xs → 1 ≤ get_or xs k 0 → get_or xs k 0 ≤ 64 → Tells (InOrder xs k) ((1 * 2 ^ (get_or xs k 0 - 1)) % 18446744073709551616)
+  pub tells-leaf : k < length xs → 1 ≤ get_or xs k 0 → get_or xs k 0 ≤ 64 → Tells (InOrder xs k) (Some ((1 * 2 ^ (get_or xs k 0 - 1)) % 18446744073709551616))
   tells-leaf h some l =
       let G = good-leaf some l in
       tells (record {
@@ -125,33 +142,50 @@ module _ (xs : List ℕ) (k : ℕ) where
         }
 
     -- so there is none where every split is absurd
-    no-split : (Split xs k → ⊥) → Tells (InOrder xs k) 0
-    no-split f = none refl (λ l o. f (split o))
+    no-split : (Split xs k → ⊥) → Tells (InOrder xs k) None
+    no-split f = none (λ l o. f (split o))
 
-    module _ (left : ℕ) (is-left : left ≡ claim (get_or xs (k + 1) 0)) where
-      pub tells-no-first : left ≡ 0 → Tells (InOrder xs k) 0
-      tells-no-first e = no-split (λ s. omega (arith, claim-held s.holds-first, some-leaves s.first))
+    -- the first child of a split is in order
+    first-order : (s : Split xs k) → InOrder xs (k + 1) (clade s.first)
+    first-order s = record { tree = s.first; holds = s.holds-first; good = good-first s.good; canonical = s.canonical.0; labels = refl }
 
-      pub tells-wide : get_or xs k 0 - 64 ≤ left → Tells (InOrder xs k) 0
+    pub tells-none-first : Tells (InOrder xs (k + 1)) None → Tells (InOrder xs k) None
+    tells-none-first T = no-split (λ s. nothing T (clade s.first) (first-order s))
+
+    pub tells-no-first : claim (get_or xs (k + 1) 0) ≡ 0 → Tells (InOrder xs k) None
+    tells-no-first e = no-split (λ s. omega (arith, claim-held s.holds-first, some-leaves s.first))
+
+    module _ {left : ℕ} (is-left : left ≡ claim (get_or xs (k + 1) 0)) where
+      pub tells-wide : get_or xs k 0 - 64 ≤ left → Tells (InOrder xs k) None
       tells-wide e = no-split (λ s. omega (arith, claim-held s.holds-first, some-leaves s.second, s.byte))
 
-      module _ (second : ℕ) (is-second : second ≡ k + 1 + 2 * left - 1) where
+      module _ {second : ℕ} (is-second : second ≡ k + 1 + 2 * left - 1) where
         second_holds : (s : Split xs k) → Holds xs second s.second
         second_holds s =
             let place : k + 1 + nodes s.first ≡ second = omega (arith, claim-held s.holds-first, twice s.first, some-leaves s.first) in
             rw place at s.holds-second
 
-        pub tells-unequal : (claim (get_or xs second 0) ≡ get_or xs k 0 - 64 - left → ⊥) → Tells (InOrder xs k) 0
-        tells-unequal n = no-split (λ s. n (omega (arith, claim-held s.holds-first, claim-held (second_holds s), s.byte)))
+        pub tells-unequal : {rest : ℕ} → rest ≡ claim (get_or xs second 0) → (rest ≡ get_or xs k 0 - 64 - left → ⊥) → Tells (InOrder xs k) None
+        tells-unequal is n = no-split (λ s. n (omega (arith, is, claim-held s.holds-first, claim-held (second_holds s), s.byte)))
+
+        pub tells-no-second : left < get_or xs k 0 - 64 → claim (get_or xs second 0) ≡ 0 → Tells (InOrder xs k) None
+        tells-no-second h e = tells-unequal {rest = 0} (sym e) (λ r. omega arith)
+
+        -- and the second
+        second-order : (s : Split xs k) → InOrder xs second (clade s.second)
+        second-order s = record { tree = s.second; holds = second_holds s; good = good-second s.good; canonical = s.canonical.1; labels = refl }
+
+        pub tells-none-second : Tells (InOrder xs second) None → Tells (InOrder xs k) None
+        tells-none-second T = no-split (λ s. nothing T (clade s.second) (second-order s))
 
         -- the children's clades are x and y
-        module _ {x y : ℕ} (X : Tells (InOrder xs (k + 1)) x) (Y : Tells (InOrder xs second) y) where
+        module _ {x y : ℕ} (X : Tells (InOrder xs (k + 1)) (Some x)) (Y : Tells (InOrder xs second) (Some y)) where
           split-fits : Split xs k → Fits x y
           split-fits s =
               let G = good-first s.good in
               let H = good-second s.good in
-              let ex : x ≡ clade s.first = told X (record { tree = s.first; holds = s.holds-first; good = G; canonical = s.canonical.0; labels = refl }) in
-              let ey : y ≡ clade s.second = told Y (record { tree = s.second; holds = second_holds s; good = H; canonical = s.canonical.1; labels = refl }) in
+              let ex : x ≡ clade s.first = told X (first-order s) in
+              let ey : y ≡ clade s.second = told Y (second-order s) in
               rw (ex, ey) (record {
                 some_first = clade-some s.first;
                 some_second = clade-some s.second;
@@ -191,11 +225,10 @@ module _ (xs : List ℕ) (k : ℕ) where
                   labels = ap₂ ◌+◌ o.labels p.labels;
                 }
 
-          pub tells-joined : {r : ℕ} → k < length xs → left < get_or xs k 0 - 64 → claim (get_or xs second 0) ≡ get_or xs k 0 - 64 - left → Joined x y r → Tells (InOrder xs k) r
-          tells-joined {r} inside wide e (unfit z n) = none z (λ l o. n (split-fits (split o)))
-          tells-joined {r} inside wide e (joins s f) = go X Y
-            where
-              go : Tells (InOrder xs (k + 1)) x → Tells (InOrder xs second) y → Tells (InOrder xs k) r
-              go (none z g) Y' = absurd (omega (arith, f.some_first))
-              go (tells o) (none z g) = absurd (omega (arith, f.some_second))
-              go (tells o) (tells p) = tells {r = r} (rw s (both inside (omega arith) o p f))
+          pub tells-joined : {r : Option ℕ} → k < length xs → left < get_or xs k 0 - 64 → claim (get_or xs second 0) ≡ get_or xs k 0 - 64 - left → Joined x y r → Tells (InOrder xs k) r
+          tells-joined inside wide e (unfit n) = none (λ l o. n (split-fits (split o)))
+          tells-joined inside wide e (joins f) = tells (both inside (omega arith) (found X) (found Y) f)
+
+-- a clade that is told is some
+pub some-told : {xs : List ℕ} {k r : ℕ} → Tells (InOrder xs k) (Some r) → 0 < r
+some-told T = let o = found T in omega (arith, clade-some o.tree, o.labels)

@@ -1,13 +1,15 @@
 -- All slots: what each is, one after another, and what makes the memory that of no set.
 -- Assumes nothing.
+use Rattle.std.specs.Prelude.{Option, Some, None, MatchOption}
+use Rattle.std.specs.Option.{unwrap_or}
 use mathlib.Core.Path.{◌≡◌, refl, sym, ap, ◌∙◌}
-use mathlib.Core.Logic.{◌⊎◌, inl, inr}
-use mathlib.Core.List.{List, [], ◌∷◌}
+use mathlib.Core.List.{List, [], ◌∷◌, ◌++◌}
 use Prim.Native.Nat.{ℕ, zero, suc, ◌+◌, ◌*◌, ◌-◌, ◌≤◌, ◌<◌}
 use native.Mathlib.Omega.{arith}
 use borrow.Author.Count.{below_more}
-use lib.ListN.{length, take, drop, length-drop}
-use lib.Seq.{length-take-le}
+use lib.ListN.{length, take, drop, get_or, length-drop, length-append, get_or-append}
+use lib.Seq.{length-take-le, get_or-take, get_or-drop, drop_at, ext_get_or}
+use Rattle.std.proofs.lemmas.List.{drop-drop}
 use Rattle.meaning.specs.Limits.{max_trees, max_nodes}
 use Rattle.meaning.specs.Tree.{Tree, Good, Canonical, SameClade}
 use Rattle.meaning.specs.Clade.{clade}
@@ -17,8 +19,9 @@ use Rattle.holdings.specs.Slots.{Slot, free, held, slot_at}
 use Rattle.holdings.specs.Memory.{index_bytes, slot_bytes, slot_in, Shelves}
 use Rattle.holdings.proofs.HeldTrees.{not_free, one-tree, held-inside}
 use Rattle.holdings.proofs.SlotBytes.{slot-inj}
-use Rattle.slot_check.specs.Slot.{Tells, tells, none, Full}
-use Rattle.slot_check.proofs.Slots.{zeros-free, free-zeros, full-some}
+use Rattle.slot_check.specs.Slot.{Tells, Full}
+use Rattle.slot_check.proofs.InOrder.{nothing}
+use Rattle.slot_check.proofs.Slots.{zeros-free, free-zeros}
 
 -- xs are the bytes of the slot h, whose tree, where it has one, has the clade l
 pub record SlotIs (xs : List ℕ) (l : ℕ) (h : Slot) : Type 0 where
@@ -87,15 +90,8 @@ choose (suc n) P f = add (choose n (λ y. P (suc y)) (λ y l. f (suc y) (omega a
         each zero l = first.1
         each (suc y) l = c.each y (omega arith)
 
--- l' is r where l is 0, and else l
-abbrev pub Came : ℕ → ℕ → ℕ → Type 0
-Came l r l' = ((l ≡ 0) × (l' ≡ r)) ⊎ ((l ≡ 0 → ⊥) × (l' ≡ l))
-
 module _ (m : List ℕ) where
-  -- slot x as a part of memory; it is whole
-  pub part-is : (x : ℕ) → take (x * 127 + 127 - x * 127) (drop (x * 127) m) ≡ slot_in m x
-  part-is x = let n : x * 127 + 127 - x * 127 ≡ max_nodes = omega arith in ap (λ (k : ℕ). take k (drop (x * max_nodes) m)) n
-
+  -- a slot is whole
   pub slot-long : index_bytes ≤ length m → (x : ℕ) → x < max_trees → length (slot_in m x) ≡ max_nodes
   slot-long long x h = length-take-le max_nodes (drop (x * max_nodes) m) (omega (arith, length-drop (x * max_nodes) m))
 
@@ -121,19 +117,15 @@ module _ (m : List ℕ) where
     }
 
   -- memory with a slot that is none is that of no set
-  pub no_slot : (x : ℕ) → x < max_trees → ¬ Zeros (slot_in m x) 0 max_nodes → {r : ℕ} → Tells (Full (slot_in m x)) r → r ≡ 0 → ¬ Shelves m
-  no_slot x h z {r} T zero-told s = go (slot_at s.slots x) refl
+  pub no_slot : (x : ℕ) → x < max_trees → ¬ Zeros (slot_in m x) 0 max_nodes → Tells (Full (slot_in m x)) None → ¬ Shelves m
+  no_slot x h z T s = go (slot_at s.slots x) refl
     where
       bytes : (k : Slot) → slot_at s.slots x ≡ k → slot_in m x ≡ slot_bytes k
       bytes k e = s.shelved.stand x h ∙ ap slot_bytes e
 
       go : (k : Slot) → slot_at s.slots x ≡ k → ⊥
       go free e = z (free-zeros max_nodes (slot_in m x) (bytes free e))
-      go (held t) e = by T (record { tree = t; good = s.shelved.trees.good x t e; canonical = s.shelved.trees.canonical x t e; bytes = bytes (held t) e; labels = refl })
-        where
-          by : Tells (Full (slot_in m x)) r → Full (slot_in m x) (clade t) → ⊥
-          by (tells F) G = omega (arith, full-some F)
-          by (none d f) G = f (clade t) G
+      go (held t) e = nothing T (clade t) (record { tree = t; good = s.shelved.trees.good x t e; canonical = s.shelved.trees.canonical x t e; bytes = bytes (held t) e; labels = refl })
 
   -- the trees of two slots of a set have one clade
   pub one-clade : (x y : ℕ) {k l : ℕ} → x < max_trees → y < max_trees → Full (slot_in m x) k → Full (slot_in m y) l → Shelves m → k ≡ l
@@ -144,39 +136,93 @@ module _ (m : List ℕ) where
       has : (x : ℕ) {l : ℕ} → x < max_trees → (F : Full (slot_in m x) l) → slot_at s.slots x ≡ held F.tree
       has x h F = slot-inj (slot_at s.slots x) (held F.tree) (s.shelved.trees.good x) (λ t d. rw (one-tree d refl) F.good) (sym (s.shelved.stand x h) ∙ F.bytes)
 
-  -- the first x slots are slots with the clade l, which one of them has where it is not 0
-  pub record Passed (x l : ℕ) : Type 0 where
-    pub each : (y : ℕ) → y < x → IsSlot (slot_in m y) l
-    pub first : (l ≡ 0) ⊎ ((y : ℕ) × (y < x) × Full (slot_in m y) l)
+  -- the first x slots are slots with the clade l
+  abbrev pub Each : ℕ → ℕ → Type 0
+  Each x l = (y : ℕ) → y < x → IsSlot (slot_in m y) l
 
-  pub passed_none : Passed 0 0
-  passed_none = record { each = λ y h. absurd (omega arith); first = inl refl }
+  -- and one of them has a tree with it
+  pub record Known (x l : ℕ) : Type 0 where
+    pub each : Each x l
+    pub place : ℕ
+    pub inside : place < x
+    pub full : Full (slot_in m place) l
 
-  module _ {x l : ℕ} (p : Passed x l) where
+  -- they are slots with the common clade, or all free where there is none
+  abbrev pub Passed : ℕ → Option ℕ → Type 0
+  Passed x common = MatchOption common (Each x 0) (Known x)
+
+  pub passed_none : Passed 0 None
+  passed_none = λ y h. absurd (omega arith)
+
+  module _ (x : ℕ) where
+    one-more : {l : ℕ} → IsSlot (slot_in m x) l → Each x l → Each (x + 1) l
+    one-more {l} s e = below_more (λ y. IsSlot (slot_in m y) l) x e s
+
     -- a free slot more
-    pub passed-free : length (slot_in m x) ≡ max_nodes → Zeros (slot_in m x) 0 max_nodes → Passed (x + 1) l
-    passed-free e z = record { each = below_more (λ y. IsSlot (slot_in m y) l) x p.each (slot-free (slot_in m x) l e z); first = go p.first }
+    pub passed-free : (common : Option ℕ) → length (slot_in m x) ≡ max_nodes → Zeros (slot_in m x) 0 max_nodes → Passed x common → Passed (x + 1) common
+    passed-free None e z p = one-more (slot-free (slot_in m x) 0 e z) p
+    passed-free (Some l) e z p = record { each = one-more (slot-free (slot_in m x) l e z) p.each; place = p.place; inside = omega (arith, p.inside); full = p.full }
+
+    -- a tree more, with the clade r, which is the common one
+    pub passed-full : (common : Option ℕ) {r : ℕ} → Full (slot_in m x) r → r ≡ unwrap_or common r → Passed x common → Passed (x + 1) (Some (unwrap_or common r))
+    passed-full None F e p = record { each = one-more (slot-full F) (λ y h. slot-any _ (p y h)); place = x; inside = omega arith; full = F }
+    passed-full (Some l) F e p = let G = rw e at F in record { each = one-more (slot-full G) p.each; place = p.place; inside = omega (arith, p.inside); full = p.full }
+
+    pub refused-labels : (common : Option ℕ) {r : ℕ} → Full (slot_in m x) r → (r ≡ unwrap_or common r → ⊥) → x < max_trees → Passed x common → ¬ Shelves m
+    refused-labels None F n h p s = n refl
+    refused-labels (Some l) F n h p s = n (one-clade x p.place h (omega (arith, p.inside)) F p.full s)
+
+  -- what is left to look at begins with a slot
+  pub record Along (rest : List ℕ) (size : ℕ) (common : Option ℕ) : Type 0 where
+    pub place : ℕ
+    pub few : place ≤ max_trees
+    pub wide : size ≡ max_nodes
+    pub is : rest ≡ drop (place * max_nodes) (take (max_trees * max_nodes) m)
+    pub passed : Passed place common
+
+  pub along-none : {rest : List ℕ} {size : ℕ} → rest ≡ take (max_trees * max_nodes) m → size ≡ max_nodes → Along rest size None
+  along-none e w = record { place = 0; few = omega arith; wide = w; is = e; passed = passed_none }
+
+  module _ (long : index_bytes ≤ length m) {rest : List ℕ} {size : ℕ} {common : Option ℕ} (A : Along rest size common) where
+    abbrev all : List ℕ
+    all = take (max_trees * max_nodes) m
+
+    left : length rest ≡ max_trees * max_nodes - A.place * max_nodes
+    left = ap length A.is ∙ length-drop (A.place * max_nodes) all ∙ ap (λ (n : ℕ). n - A.place * max_nodes) (length-take-le (max_trees * max_nodes) m (omega (arith, long)))
+
+    -- the next slot is cut off
+    module _ (slot rest' : List ℕ) (cut : rest ≡ slot ++ rest') (whole : length slot ≡ size) where
+      lens : length rest ≡ length slot + length rest'
+      lens = ap length cut ∙ length-append slot rest'
+
+      pub along-inside : A.place < max_trees
+      along-inside = omega (arith, left, lens, whole, A.wide)
+
+      pub along-slot : slot ≡ slot_in m A.place
+      along-slot = ext_get_or 0 slot (slot_in m A.place) (omega (arith, whole, A.wide, slot-long long A.place along-inside)) byte
+        where
+          byte : (k : ℕ) → k < length slot → get_or slot k 0 ≡ get_or (slot_in m A.place) k 0
+          byte k h =
+              let few : k < max_nodes = omega (arith, whole, A.wide) in
+              sym (get_or-append slot rest' 0 k h) ∙ ap (λ (l : List ℕ). get_or l k 0) (sym cut ∙ A.is) ∙ get_or-drop (A.place * max_nodes) all k 0
+              ∙ get_or-take (max_trees * max_nodes) m (A.place * max_nodes + k) 0 (omega (arith, along-inside, few))
+              ∙ sym (get_or-drop (A.place * max_nodes) m k 0) ∙ sym (get_or-take max_nodes (drop (A.place * max_nodes) m) k 0 few)
+
+      pub along-next : {size' : ℕ} {common' : Option ℕ} → size' ≡ size → Passed (A.place + 1) common' → Along rest' size' common'
+      along-next e p = record { place = A.place + 1; few = omega (arith, along-inside); wide = e ∙ A.wide; is = next; passed = p }
+        where
+          next : rest' ≡ drop ((A.place + 1) * max_nodes) all
+          next =
+              let on : A.place * max_nodes + max_nodes ≡ (A.place + 1) * max_nodes = omega arith in
+              sym (drop_at slot rest' max_nodes (whole ∙ A.wide)) ∙ ap (drop max_nodes) (sym cut ∙ A.is) ∙ drop-drop max_nodes (A.place * max_nodes) all ∙ ap (λ (k : ℕ). drop k all) on
+
+    -- none is left
+    pub along-all : length rest < size → Shelves m
+    along-all h = end common A.passed
       where
-        go : (l ≡ 0) ⊎ ((y : ℕ) × (y < x) × Full (slot_in m y) l) → (l ≡ 0) ⊎ ((y : ℕ) × (y < x + 1) × Full (slot_in m y) l)
-        go (inl d) = inl d
-        go (inr (y, h, F)) = inr (y, omega arith, F)
+        last : max_trees ≤ A.place
+        last = omega (arith, left, A.wide, A.few)
 
-    -- a tree more, with the clade r; it is the common one from there on, if there was none
-    module _ (r l' : ℕ) (F : Full (slot_in m x) r) (came : Came l r l') where
-      pub passed-full : r ≡ l' → Passed (x + 1) l'
-      passed-full e = record { each = below_more (λ y. IsSlot (slot_in m y) l') x (go came) (slot-full G); first = inr (x, omega arith, G) }
-        where
-          G : Full (slot_in m x) l'
-          G = rw (← e) F
-
-          go : Came l r l' → (y : ℕ) → y < x → IsSlot (slot_in m y) l'
-          go (inl (z, d)) y h = slot-any l' (rw z at (p.each y h))
-          go (inr (n, d)) y h = rw d (p.each y h)
-
-      pub refused-labels : x < max_trees → (r ≡ l' → ⊥) → ¬ Shelves m
-      refused-labels h n s = go came p.first
-        where
-          go : Came l r l' → (l ≡ 0) ⊎ ((y : ℕ) × (y < x) × Full (slot_in m y) l) → ⊥
-          go (inl (z, d)) f = n (sym d)
-          go (inr (z, d)) (inl e) = z e
-          go (inr (z, d)) (inr (y, g, G)) = n (one-clade x y h (omega arith) F G s ∙ sym d)
+        end : (c : Option ℕ) → Passed A.place c → Shelves m
+        end None p = all-shelved long 0 (λ y h. p y (omega (arith, last)))
+        end (Some l) p = all-shelved long l (λ y h. p.each y (omega (arith, last)))

@@ -1,6 +1,8 @@
 -- The bytes of a slot: zeros, or a tree with zeros behind it.
 -- Assumes nothing.
-use mathlib.Core.Path.{◌≡◌, refl, sym, ap, ◌∙◌}
+use Rattle.std.specs.Prelude.{Bool, true, false, Some, None}
+use Rattle.std.specs.Bool.{then_some}
+use mathlib.Core.Path.{◌≡◌, sym, ap, ◌∙◌}
 use mathlib.Core.List.{List}
 use Prim.Native.Nat.{ℕ, ◌≤◌, ◌<◌}
 use native.Mathlib.Decide.{dec_lt}
@@ -10,13 +12,13 @@ use lib.Seq.{length-sets, ext_get_or}
 use Rattle.meaning.specs.Limits.{max_nodes}
 use Rattle.meaning.specs.Tree.{Tree}
 use Rattle.meaning.proofs.Clade.{clade-some}
-use Rattle.lent.specs.Runs.{Zeros}
+use Rattle.lent.specs.Runs.{Zeros, Says}
 use Rattle.lent.proofs.Runs.{sets-outside, sets-at}
 use Rattle.held.specs.Held.{Holds, Held, nodes, pre, hold}
 use Rattle.held.proofs.Laws.{few-nodes, holding, length-pre}
 use Rattle.holdings.proofs.Bytes.{all-zero}
 use Rattle.slot_check.specs.Slot.{InOrder, Tells, tells, none, Full}
-use Rattle.slot_check.proofs.InOrder.{told}
+use Rattle.slot_check.proofs.InOrder.{found, nothing}
 
 -- ---- zeros
 -- a list of zeros only is told by its length
@@ -46,10 +48,6 @@ module _ (xs : List ℕ) (t : Tree) (long : length xs ≡ max_nodes) (few : node
       by k i (no l) = z k (omega arith) i ∙ sym (hold-zeros t k (omega arith) i)
 
 -- ---- what is told of a slot
-pub found : {P : ℕ → Type 0} {r : ℕ} → Tells P r → (r ≡ 0 → ⊥) → P r
-found (tells p) n = p
-found (none e f) n = absurd (n e)
-
 pub full-some : {xs : List ℕ} {l : ℕ} → Full xs l → 0 < l
 full-some F = omega (arith, clade-some F.tree, F.labels)
 
@@ -59,25 +57,28 @@ full-holds F = rw F.bytes (holding F.tree F.good.small (few-nodes F.good))
 full-order : {xs : List ℕ} {l : ℕ} → Full xs l → InOrder xs 0 l
 full-order F = record { tree = F.tree; holds = full-holds F; good = F.good; canonical = F.canonical; labels = F.labels }
 
-module _ {xs : List ℕ} {r : ℕ} (X : Tells (InOrder xs 0) r) where
-  -- no tree in order
-  pub full-none : r ≡ 0 → Tells (Full xs) 0
-  full-none e = none refl (λ l F. omega (arith, told X (full-order F), full-some F))
+-- no tree in order
+pub full-none : {xs : List ℕ} → Tells (InOrder xs 0) None → Tells (Full xs) None
+full-none X = none (λ l F. nothing X l (full-order F))
 
-  module _ (n : r ≡ 0 → ⊥) where
-    abbrev o : InOrder xs 0 r
-    o = found X n
+module _ {xs : List ℕ} {r : ℕ} (X : Tells (InOrder xs 0) (Some r)) where
+  abbrev o : InOrder xs 0 r
+  o = found X
 
-    pub holds-some : Held xs 0
-    holds-some = record { tree = o.tree; holds = o.holds }
+  pub holds-some : Held xs 0
+  holds-some = record { tree = o.tree; holds = o.holds }
 
-    module _ (w : ℕ) (width : (t : Tree) → Holds xs 0 t → w ≡ nodes t) where
-      -- more behind it
-      pub full-more : ¬ Zeros xs w max_nodes → Tells (Full xs) 0
-      full-more m = none refl (λ l F. m (rw (width F.tree (full-holds F), F.bytes) (hold-zeros F.tree)))
+  module _ (w : ℕ) (width : (t : Tree) → Holds xs 0 t → w ≡ nodes t) where
+    -- more behind it
+    pub full-more : ¬ Zeros xs w max_nodes → Tells (Full xs) None
+    full-more m = none (λ l F. m (rw (width F.tree (full-holds F), F.bytes) (hold-zeros F.tree)))
 
-      -- zeros behind it
-      pub full-zeros : length xs ≡ max_nodes → Zeros xs w max_nodes → Tells (Full xs) r
-      full-zeros long z =
-          let z' : Zeros xs (nodes o.tree) max_nodes = rw (width o.tree o.holds) at z in
-          tells (record { tree = o.tree; good = o.good; canonical = o.canonical; bytes = slot_is xs o.tree long (few-nodes o.good) o.holds z'; labels = o.labels })
+    -- zeros behind it
+    pub full-zeros : length xs ≡ max_nodes → Zeros xs w max_nodes → Tells (Full xs) (Some r)
+    full-zeros long z =
+        let z' : Zeros xs (nodes o.tree) max_nodes = rw (width o.tree o.holds) at z in
+        tells (record { tree = o.tree; good = o.good; canonical = o.canonical; bytes = slot_is xs o.tree long (few-nodes o.good) o.holds z'; labels = o.labels })
+
+    pub full-told : length xs ≡ max_nodes → (z : Bool) → Says z (Zeros xs w max_nodes) → Tells (Full xs) (then_some z r)
+    full-told long true z = full-zeros long z
+    full-told long false z = full-more z

@@ -1,6 +1,6 @@
 -- What the check of a slot asks: whether its bytes hold a tree in canonical order and zeros behind it, and which labels the tree has.
 -- Assumes nothing.
-use Rattle.std.specs.Prelude.{◌≡◌, cond, List, ℕ, ◌+◌, ◌-◌, ◌<◌, T, leb, eqb}
+use Rattle.std.specs.Prelude.{◌≡◌, cond, List, ℕ, ◌+◌, ◌-◌, ◌<◌, T, leb, eqb, Option, Some, None, MatchOption}
 use Rattle.meaning.specs.Limits.{max_label}
 use Rattle.meaning.specs.Tree.{Tree, Good, Canonical}
 use Rattle.meaning.specs.Clade.{lowest, disjoint, clade}
@@ -10,6 +10,10 @@ use Rattle.held.specs.Held.{Holds, hold}
 abbrev pub claim : ℕ → ℕ
 claim b = cond (eqb b 0) 0 (cond (leb b max_label) 1 (b - max_label))
 
+-- that many, or none
+abbrev pub Claims : ℕ → Option ℕ → Type 0
+Claims b r = MatchOption r (claim b ≡ 0) (λ n. (0 < n) × (n ≡ claim b))
+
 -- the clades x and y can be those of a fork's children, in this order
 pub record Fits (x y : ℕ) : Type 0 where
   pub some_first : 0 < x
@@ -17,10 +21,10 @@ pub record Fits (x y : ℕ) : Type 0 where
   pub apart : T (disjoint x y)
   pub smaller : lowest x < lowest y
 
--- r is the clade of that fork, or 0 where they can't
-pub data Joined (x y : ℕ) : ℕ → Type 0 where
-  joins : {r : ℕ} → r ≡ x + y → Fits x y → Joined x y r
-  unfit : {r : ℕ} → r ≡ 0 → ¬ Fits x y → Joined x y r
+-- the clade of that fork, or none where they can't
+pub data Joined (x y : ℕ) : Option ℕ → Type 0 where
+  joins : Fits x y → Joined x y (Some (x + y))
+  unfit : ¬ Fits x y → Joined x y None
 
 -- xs holds from k on a good tree in canonical order, of which l is the clade
 pub record InOrder (xs : List ℕ) (k l : ℕ) : Type 0 where
@@ -30,10 +34,10 @@ pub record InOrder (xs : List ℕ) (k l : ℕ) : Type 0 where
   pub canonical : Canonical tree
   pub labels : clade tree ≡ l
 
--- r is what P is so of, or 0 where it is so of nothing
-pub data Tells (P : ℕ → Type 0) : ℕ → Type 0 where
-  tells : {r : ℕ} → P r → Tells P r
-  none : {r : ℕ} → r ≡ 0 → ((l : ℕ) → P l → ⊥) → Tells P r
+-- what P is so of, or none where it is so of nothing
+pub data Tells (P : ℕ → Type 0) : Option ℕ → Type 0 where
+  tells : {r : ℕ} → P r → Tells P (Some r)
+  none : ((l : ℕ) → P l → ⊥) → Tells P None
 
 -- xs are the bytes of a slot with a tree, of which l is the clade
 pub record Full (xs : List ℕ) (l : ℕ) : Type 0 where

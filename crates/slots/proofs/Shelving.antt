@@ -2,19 +2,18 @@
 -- Assumes nothing.
 use mathlib.Core.Path.{◌≡◌, refl, sym, ap, ◌∙◌}
 use mathlib.Core.Bool.{Bool, true, false}
-use mathlib.Core.List.{List, ◌++◌, append_assoc, append-nil}
+use mathlib.Core.List.{List, ◌++◌, append_assoc}
 use Prim.Native.Nat.{ℕ, ◌*◌, ◌-◌, ◌≤◌, ◌<◌}
 use native.Mathlib.Nat.{add-zero}
 use native.Mathlib.Omega.{arith}
 use borrow.Author.Tests.{eqb-true, eqb-false}
 use lib.Dec.{eqb}
-use lib.ListN.{length, drop, get_or, replicate, take-append-drop, length-drop, drop_of_length-le}
-use lib.Seq.{sets, length-take-le, get_or-take, get_or-drop, ext_get_or}
+use lib.ListN.{length, drop, get_or, take-append-drop, length-drop}
+use lib.Seq.{length-take-le, get_or-take, get_or-drop, ext_get_or}
 use Rattle.meaning.specs.Limits.{max_trees, max_nodes}
 use Rattle.meaning.specs.Tree.{Tree, Good}
 use Rattle.meaning.proofs.Canon.{canonical-canon}
-use Rattle.lent.specs.Runs.{Says, Wrote}
-use Rattle.lent.proofs.Runs.{sets-start}
+use Rattle.lent.specs.Runs.{Says}
 use Rattle.held.specs.Held.{nodes, pre, hold, Holds, Held}
 use Rattle.held.specs.Kept.{Keeps}
 use Rattle.held.proofs.Laws.{few-nodes, holding, twice}
@@ -36,12 +35,6 @@ byte-free : (h : Slot) → GoodSlot h → get_or (slot_bytes h) 0 0 ≡ 0 → h 
 byte-free free g e = refl
 byte-free (held t) g e = absurd (held-byte (g t refl) e)
 
--- stores over a whole array leave what is stored
-sets-whole : (out ys : List ℕ) → length ys ≡ length out → sets out 0 ys ≡ ys
-sets-whole out ys e =
-    let past : length out ≤ length ys = omega (arith, e) in
-    sets-start out ys (omega (arith, e)) ∙ ap (λ (l : List ℕ). ys ++ l) (drop_of_length-le out past) ∙ append-nil ys
-
 -- what is not free has a tree
 pub some-tree : (h : Slot) → ¬ (h ≡ free) → (t : Tree) × (h ≡ held t)
 some-tree free n = absurd (n refl)
@@ -50,10 +43,6 @@ some-tree (held t) n = (t, refl)
 -- memory has all bytes of a slot
 pub slot-long : (memory : List ℕ) (x : ℕ) → index_bytes ≤ length memory → x < max_trees → length (slot_in memory x) ≡ max_nodes
 slot-long memory x long few = length-take-le max_nodes (drop (x * max_nodes) memory) (omega (arith, length-drop (x * max_nodes) memory))
-
--- a slot copied over zeros
-pub slot-copied : (memory out : List ℕ) (x r : ℕ) → index_bytes ≤ length memory → x < max_trees → Wrote (slot_in memory x) (replicate max_nodes 0) out 0 r → out ≡ slot_in memory x
-slot-copied memory out x r long few w = w.cells ∙ sets-whole (replicate max_nodes 0) (slot_in memory x) (slot-long memory x long few)
 
 module _ {hs : List Slot} {memory : List ℕ} (S : Shelved hs memory) {x : ℕ} (few : x < max_trees) where
   good-slot : GoodSlot (slot_at hs x)

@@ -3,15 +3,17 @@
 use mathlib.Core.Path.{◌≡◌, refl, sym, ap, ap₂, ◌∙◌, subst}
 use mathlib.Core.Logic.{◌↔◌, ◌≢◌}
 use mathlib.Core.List.Memᴰ
-use mathlib.Core.List.{List, [], ◌∷◌, ◌++◌, map, append_assoc, Memᴰ}
-use Prim.Native.Nat.{ℕ, ◌+◌, ◌^◌, ◌≤◌, ◌<◌}
+use mathlib.Core.Bool.{true, false}
+use mathlib.Core.List.{List, [], ◌∷◌, ◌++◌, map, append_assoc, append-nil, Memᴰ}
+use Prim.Native.Nat.{ℕ, suc, ◌+◌, ◌-◌, ◌^◌, ◌≤◌, ◌<◌}
+use native.Mathlib.Nat.{add-zero}
 use native.Mathlib.Omega.{arith}
 use native.Mathlib.Decide.{ℕ_discrete}
 use native.Mathlib.Numerals.{add-one}
-use borrow.Author.Tests.{eq-eqb, ne_eqb}
+use borrow.Author.Tests.{eq-eqb, ne_eqb, eqb-true}
 use lib.Dec.{T, eqb, not_T}
-use lib.ListN.{length, get_or, set, take}
-use lib.Seq.{slice, slice_empty, slice-cons}
+use lib.ListN.{length, get_or, set, length-append}
+use Rattle.std.specs.List.{AllAdjacentBelow, IsChunkByPrefix}
 use Rattle.meaning.specs.Lists.{count}
 use Rattle.lent.specs.Runs.{Wrote}
 use Rattle.lent.proofs.Runs.{wrote_one, wrote-more}
@@ -20,7 +22,7 @@ use Rattle.meaning.specs.Sorted.{put, Sorted}
 use Rattle.families.specs.Support.{by_labels}
 use Rattle.families.proofs.Support.{labels-strict}
 use Rattle.sorting.specs.Sort.{InOrder}
-use Rattle.support.specs.Counted.{firsts, sizes_from, sizes, CountRoom, Counted}
+use Rattle.support.specs.Counted.{firsts, sizes_from, sizes, Counted}
 
 -- ---- one step of each list
 firsts_same : (x y : ℕ) (ys : List ℕ) → x ≡ y → firsts (x ∷ y ∷ ys) ≡ firsts (y ∷ ys)
@@ -37,90 +39,99 @@ sizes-same x y m ys e = rw (eq-eqb x y e)
 sizes-new : (x y m : ℕ) (ys : List ℕ) → x ≢ y → sizes_from x m (y ∷ ys) ≡ m ∷ sizes_from y 1 ys
 sizes-new x y m ys n = rw (ne_eqb x y n)
 
--- ---- the first k numbers of n are listed, but for the last of them, which stands there `number` times so far
-pub record Counting (xs clades clades' numbers numbers' : List ℕ) (n m last number k : ℕ) : Type 0 where
-  pub begun : m < k
-  pub inside : k ≤ n
-  pub few : number ≤ k
+-- ---- a run of equal numbers, and what follows it
+abbrev RunOf : ℕ → List ℕ → List ℕ → Type 0
+RunOf x [] [] = Unit {0}
+RunOf x [] (z ∷ zs) = x ≢ z
+RunOf x (y ∷ ys) rest = (x ≡ y) × RunOf y ys rest
+
+run-of : (x : ℕ) (ys rest : List ℕ) → IsChunkByPrefix eqb (x ∷ (ys ++ rest)) (suc (length ys)) → RunOf x ys rest
+run-of x [] [] h = tt
+run-of x [] (z ∷ zs) h = λ e. let p : true ≡ false = sym (eq-eqb x z e) ∙ h.1 (omega arith) 0 in cc
+run-of x (y ∷ ys) rest (same, other) = (eqb-true x y (same 0 0 (omega arith)), run-of y ys rest (inside, behind))
+  where
+    inside : AllAdjacentBelow (λ a b. eqb a b ≡ true) (y ∷ (ys ++ rest)) (suc (length ys))
+    inside k d lt =
+        ap (λ n. eqb (get_or (y ∷ (ys ++ rest)) k d) (get_or (y ∷ (ys ++ rest)) n d)) (add-one k)
+        ∙ ap (λ n. eqb (get_or (y ∷ (ys ++ rest)) k d) (get_or (x ∷ y ∷ (ys ++ rest)) n d)) (sym (add-one (suc k)))
+        ∙ same (suc k) d (omega arith)
+
+    behind : suc (length ys) < length (y ∷ (ys ++ rest)) → (d : ℕ) → eqb (get_or (y ∷ (ys ++ rest)) (suc (length ys) - 1) d) (get_or (y ∷ (ys ++ rest)) (suc (length ys)) d) ≡ false
+    behind lt d =
+        let here : suc (length ys) - 1 ≡ length ys = omega arith in
+        let there : suc (suc (length ys)) - 1 ≡ suc (length ys) = omega arith in
+        ap (λ n. eqb (get_or (y ∷ (ys ++ rest)) n d) (get_or (y ∷ (ys ++ rest)) (suc (length ys)) d)) here
+        ∙ ap (λ n. eqb (get_or (x ∷ y ∷ (ys ++ rest)) n d) (get_or (y ∷ (ys ++ rest)) (suc (length ys)) d)) (sym there)
+        ∙ other (omega arith) d
+
+firsts-run : (x : ℕ) (ys rest : List ℕ) → RunOf x ys rest → firsts (x ∷ (ys ++ rest)) ≡ x ∷ firsts rest
+firsts-run x [] [] h = refl
+firsts-run x [] (z ∷ zs) h = firsts-new x z zs h
+firsts-run x (y ∷ ys) rest (e, h) = firsts_same x y (ys ++ rest) e ∙ firsts-run y ys rest h ∙ ap (λ (z : ℕ). z ∷ firsts rest) (sym e)
+
+sizes-run : (x m : ℕ) (ys rest : List ℕ) → RunOf x ys rest → sizes_from x m (ys ++ rest) ≡ (m + length ys) ∷ sizes rest
+sizes-run x m [] [] h = ap (λ (n : ℕ). n ∷ []) (sym (add-zero m))
+sizes-run x m [] (z ∷ zs) h = sizes-new x z m zs h ∙ ap (λ (n : ℕ). n ∷ sizes_from z 1 zs) (sym (add-zero m))
+sizes-run x m (y ∷ ys) rest (e, h) =
+    let more : m + 1 + length ys ≡ m + suc (length ys) = omega arith in
+    sizes-same x y m (ys ++ rest) e ∙ sizes-run y (m + 1) ys rest h ∙ ap (λ (n : ℕ). n ∷ sizes rest) more
+
+-- a run from the front of xs, and the rest
+pub record Cut (xs run rest : List ℕ) : Type 0 where
+  pub both : xs ≡ run ++ rest
+  pub some : 0 < length run
+  pub prefix : IsChunkByPrefix eqb xs (length run)
+
+pub cut-firsts : (xs run rest : List ℕ) → Cut xs run rest → firsts xs ≡ get_or run 0 0 ∷ firsts rest
+cut-firsts xs [] rest C = absurd (omega (arith, C.some))
+cut-firsts xs (x ∷ ys) rest C = ap firsts C.both ∙ firsts-run x ys rest (run-of x ys rest (subst (λ (l : List ℕ). IsChunkByPrefix eqb l (suc (length ys))) C.both C.prefix))
+
+pub cut-sizes : (xs run rest : List ℕ) → Cut xs run rest → sizes xs ≡ length run ∷ sizes rest
+cut-sizes xs [] rest C = absurd (omega (arith, C.some))
+cut-sizes xs (x ∷ ys) rest C =
+    let long : 1 + length ys ≡ suc (length ys) = omega arith in
+    ap sizes C.both
+    ∙ sizes-run x 1 ys rest (run-of x ys rest (subst (λ (l : List ℕ). IsChunkByPrefix eqb l (suc (length ys))) C.both C.prefix))
+    ∙ ap (λ (n : ℕ). n ∷ sizes rest) long
+
+-- ---- the runs in front of `rest` are listed
+pub record Counting (xs rest clades clades' numbers numbers' : List ℕ) (m : ℕ) : Type 0 where
+  pub few : m + length rest ≤ length xs
   pub done : List ℕ
   pub often : List ℕ
   pub wrote : Wrote done clades clades' 0 m
   pub beside : Wrote often numbers numbers' 0 m
-  pub same : done ++ firsts (last ∷ slice k n xs) ≡ firsts (take n xs)
-  pub counts : often ++ sizes_from last number (slice k n xs) ≡ sizes (take n xs)
+  pub same : done ++ firsts rest ≡ firsts xs
+  pub counts : often ++ sizes rest ≡ sizes xs
 
-pub counted_none : (xs clades numbers : List ℕ) (n : ℕ) → n ≡ 0 → Counted (take n xs) clades clades numbers numbers 0
-counted_none xs clades numbers n e = rw e (record { each = record { behind = refl; cells = refl }; often = record { behind = refl; cells = refl } })
-
-pub counting-one : {xs clades numbers : List ℕ} {n : ℕ} → CountRoom clades numbers xs n → n ≢ 0 → Counting xs clades clades numbers numbers n 0 (get_or xs 0 0) 1 1
-counting-one {xs} {clades} {numbers} {n} R some = record {
-  begun = omega arith;
-  inside = omega (arith, some);
+pub counting_none : (xs clades numbers : List ℕ) → Counting xs xs clades clades numbers numbers 0
+counting_none xs clades numbers = record {
   few = omega arith;
   done = [];
   often = [];
   wrote = record { behind = refl; cells = refl };
   beside = record { behind = refl; cells = refl };
-  same = sym (ap firsts first);
-  counts = sym (ap sizes first);
+  same = refl;
+  counts = refl;
 }
-  where
-    first : take n xs ≡ get_or xs 0 0 ∷ slice 1 n xs
-    first = slice-cons 0 n xs 0 (omega (arith, some)) (omega (arith, R.inside, R.long))
 
-module _ {xs clades clades' numbers numbers' : List ℕ} {n m last number k : ℕ} (C : Counting xs clades clades' numbers numbers' n m last number k) where
-  module _ (fits : n ≤ length xs) (more : k < n) where
-    next : slice k n xs ≡ get_or xs k 0 ∷ slice (k + 1) n xs
-    next = slice-cons k n xs 0 more fits ∙ ap (λ (j : ℕ). get_or xs k 0 ∷ slice j n xs) (sym (add-one k))
+module _ {xs rest clades clades' numbers numbers' : List ℕ} {m : ℕ} (C : Counting xs rest clades clades' numbers numbers' m) where
+  pub counting-more : {run rest' : List ℕ} → Cut rest run rest' → Counting xs rest' clades (set clades' m (get_or run 0 0)) numbers (set numbers' m (length run)) (m + 1)
+  counting-more {run} {rest'} K = record {
+    few = omega (arith, C.few, ap length K.both, length-append run rest', K.some);
+    done = C.done ++ (get_or run 0 0 ∷ []);
+    often = C.often ++ (length run ∷ []);
+    wrote = wrote-more C.wrote (wrote_one clades' m (get_or run 0 0));
+    beside = wrote-more C.beside (wrote_one numbers' m (length run));
+    same = append_assoc C.done (get_or run 0 0 ∷ []) (firsts rest') ∙ ap (λ (l : List ℕ). C.done ++ l) (sym (cut-firsts rest run rest' K)) ∙ C.same;
+    counts = append_assoc C.often (length run ∷ []) (sizes rest') ∙ ap (λ (l : List ℕ). C.often ++ l) (sym (cut-sizes rest run rest' K)) ∙ C.counts;
+  }
 
-    -- one more of the last
-    pub counting-same : last ≡ get_or xs k 0 → Counting xs clades clades' numbers numbers' n m last (number + 1) (k + 1)
-    counting-same e = record {
-      begun = omega (arith, C.begun);
-      inside = omega arith;
-      few = omega (arith, C.few);
-      done = C.done;
-      often = C.often;
-      wrote = C.wrote;
-      beside = C.beside;
-      same =
-          ap (λ (l : List ℕ). C.done ++ l)
-          (ap (λ (x : ℕ). firsts (x ∷ slice (k + 1) n xs)) e ∙ sym (ap (λ (l : List ℕ). firsts (last ∷ l)) next ∙ firsts_same last (get_or xs k 0) (slice (k + 1) n xs) e))
-          ∙ C.same;
-      counts =
-          ap (λ (l : List ℕ). C.often ++ l)
-          (ap (λ (x : ℕ). sizes_from x (number + 1) (slice (k + 1) n xs)) e ∙ sym (ap (sizes_from last number) next ∙ sizes-same last (get_or xs k 0) number (slice (k + 1) n xs) e))
-          ∙ C.counts;
-    }
-
-    -- the last is listed, and the next takes its place
-    pub counting-new : last ≢ get_or xs k 0 → Counting xs clades (set clades' m last) numbers (set numbers' m number) n (m + 1) (get_or xs k 0) 1 (k + 1)
-    counting-new d = record {
-      begun = omega (arith, C.begun);
-      inside = omega arith;
-      few = omega arith;
-      done = C.done ++ (last ∷ []);
-      often = C.often ++ (number ∷ []);
-      wrote = wrote-more C.wrote (wrote_one clades' m last);
-      beside = wrote-more C.beside (wrote_one numbers' m number);
-      same =
-          append_assoc C.done (last ∷ []) (firsts (get_or xs k 0 ∷ slice (k + 1) n xs))
-          ∙ ap (λ (l : List ℕ). C.done ++ l) (sym (ap (λ (l : List ℕ). firsts (last ∷ l)) next ∙ firsts-new last (get_or xs k 0) (slice (k + 1) n xs) d))
-          ∙ C.same;
-      counts =
-          append_assoc C.often (number ∷ []) (sizes_from (get_or xs k 0) 1 (slice (k + 1) n xs))
-          ∙ ap (λ (l : List ℕ). C.often ++ l) (sym (ap (sizes_from last number) next ∙ sizes-new last (get_or xs k 0) number (slice (k + 1) n xs) d))
-          ∙ C.counts;
-    }
-
-  -- none is left, and the last is listed
-  pub counting-all : n ≤ k → Counted (take n xs) clades (set clades' m last) numbers (set numbers' m number) (m + 1)
-  counting-all all =
-      let at_n : k ≡ n = omega (arith, C.inside) in
-      let end : slice k n xs ≡ [] = ap (λ (j : ℕ). slice j n xs) at_n ∙ slice_empty n xs in
-      let each : C.done ++ (last ∷ []) ≡ firsts (take n xs) = ap (λ (l : List ℕ). C.done ++ firsts (last ∷ l)) (sym end) ∙ C.same in
-      let often : C.often ++ (number ∷ []) ≡ sizes (take n xs) = ap (λ (l : List ℕ). C.often ++ sizes_from last number l) (sym end) ∙ C.counts in
-      record { each = rw (← each) (wrote-more C.wrote (wrote_one clades' m last)); often = rw (← often) (wrote-more C.beside (wrote_one numbers' m number)) }
+  pub counting-all : rest ≡ [] → Counted xs clades clades' numbers numbers' m
+  counting-all none =
+      let each : C.done ≡ firsts xs = sym (append-nil C.done) ∙ ap (λ (l : List ℕ). C.done ++ firsts l) (sym none) ∙ C.same in
+      let often : C.often ≡ sizes xs = sym (append-nil C.often) ∙ ap (λ (l : List ℕ). C.often ++ sizes l) (sym none) ∙ C.counts in
+      record { each = rw (← each) C.wrote; often = rw (← often) C.beside }
 
 -- ---- the members of the list are those of what it was made from
 pub firsts-in : (xs : List ℕ) → SameMembers (firsts xs) xs

@@ -8,6 +8,7 @@ use Prim.Native.Nat.{ℕ, suc, ◌*◌, ◌≤◌}
 use native.Mathlib.Omega.{arith}
 use lib.Dec.{eqb}
 use lib.ListN.{length, take, length-append, length-map}
+use lib.Seq.{length-take-le}
 use Rattle.meaning.specs.Limits.{max_trees}
 use Rattle.meaning.specs.Tree.{Tree as Topology, leaf, Good, canon}
 use Rattle.meaning.proofs.Lists.{number}
@@ -22,11 +23,11 @@ use Rattle.families.specs.Support.{pooled, supported}
 use Rattle.families.proofs.Clades.{clades-length}
 use Rattle.families.proofs.Support.{EachGood}
 use Rattle.families.proofs.Reordered.{canon-each-good, supported-canon, support-canon}
-use Rattle.sorting.specs.Merge.{pool_size}
-use Rattle.sorting.specs.Sort.{Sorts, RunSorted}
+use Rattle.sorting.specs.Pool.{pool_size}
+use Rattle.sorting.specs.Sort.{Sorts}
 use Rattle.support.specs.Counted.{firsts, sizes, Counted, GroupRoom, Regrouped}
 use Rattle.support.specs.Supports.{SupportListed}
-use Rattle.sorting.proofs.Runs.{slice-own, run_long}
+use Rattle.sorting.proofs.Runs.{slice-own}
 use Rattle.support.proofs.Supported.{firsts-long, grouped-supported, grouped-support}
 
 -- a table keeps trees that a text can hold
@@ -66,46 +67,43 @@ module _ {ts : List Topology} (A : EachGood ts) (few : length ts ≤ max_trees) 
   pub pool-few : n ≤ 10080
   pool-few = omega (arith, gathered.behind, length-map ts canon, pooled-few us B, few)
 
-  pub pool-long : length pool₁ ≡ pool_size
-  pool-long = wrote-length gathered ∙ long
-
-  module _ {pool₂ : List ℕ} (S : RunSorted pool₁ pool₂ 0 n) where
-    abbrev zs : List ℕ
-    zs = S.sorted
-
+  -- the front of the pool is sorted
+  module _ {zs : List ℕ} (S : Sorts (take n pool₁) zs) where
     sorts : Sorts (pooled us) zs
-    sorts = subst (λ (l : List ℕ). Sorts l zs) (begins (omega (arith, pool-few, long)) gathered) S.sorts
+    sorts = subst (λ (l : List ℕ). Sorts l zs) (begins (omega (arith, pool-few, long)) gathered) S
 
-    sorted-is : take n pool₂ ≡ zs
-    sorted-is = ap (take n) S.cells ∙ slice-own 0 n pool₁ zs (omega arith) (omega (arith, pool-few, pool-long)) (omega (arith, sorts.long, gathered.behind))
+    pub sorted-few : length zs ≤ 10080
+    sorted-few = omega (arith, sorts.long, gathered.behind, pool-few)
 
-    pub sorted-long : length pool₂ ≡ pool_size
-    sorted-long = run_long S ∙ pool-long
+    -- and each of its clades is noted once
+    module _ {clades₀ clades₁ numbers₀ numbers₁ : List ℕ} {m : ℕ} (room : length zs ≤ length clades₀) (beside : length zs ≤ length numbers₀)
+        (C : Counted zs clades₀ clades₁ numbers₀ numbers₁ m) where
+      m-few : m ≤ length zs
+      m-few = omega (arith, C.each.behind, firsts-few zs)
 
-    module _ {clades₀ clades₁ numbers₀ numbers₁ : List ℕ} {m : ℕ} (room : length clades₀ ≡ pool_size) (beside : length numbers₀ ≡ pool_size)
-        (C : Counted (take n pool₂) clades₀ clades₁ numbers₀ numbers₁ m) where
-      each : Wrote (firsts zs) clades₀ clades₁ 0 m
-      each = subst (λ (l : List ℕ). Wrote (firsts l) clades₀ clades₁ 0 m) sorted-is C.each
+      pub noted-few : (m ≤ length clades₁) × (m ≤ length numbers₁)
+      noted-few = (omega (arith, m-few, room, wrote-length C.each), omega (arith, m-few, beside, wrote-length C.often))
 
-      often : Wrote (sizes zs) numbers₀ numbers₁ 0 m
-      often = subst (λ (l : List ℕ). Wrote (sizes l) numbers₀ numbers₁ 0 m) sorted-is C.often
+      cs : take m clades₁ ≡ firsts zs
+      cs = begins (omega (arith, m-few, room)) C.each
 
-      m-few : m ≤ 10080
-      m-few = omega (arith, each.behind, firsts-few zs, sorts.long, gathered.behind, pool-few)
+      ns : take m numbers₁ ≡ sizes zs
+      ns = begins (omega (arith, m-few, beside)) C.often
 
-      pub group-room : {out outs : List ℕ} {trees : ℕ} → trees ≤ max_trees → length (supported ts) ≤ length out → length (supported ts) ≤ length outs → GroupRoom out outs clades₁ numbers₁ m trees
-      group-room h f g = record {
-        read = record { inside = m-few; long = wrote-length each ∙ room; beside_long = wrote-length often ∙ beside };
-        few = h;
-        room = omega (arith, each.behind, firsts-long us B sorts, ap length (supported-canon ts A));
-        rooms = omega (arith, each.behind, firsts-long us B sorts, ap length (supported-canon ts A));
-      }
+      pub group-room : {out outs : List ℕ} {trees : ℕ} → trees ≤ max_trees → length (supported ts) ≤ length out → length (supported ts) ≤ length outs
+          → GroupRoom out outs (take m clades₁) (take m numbers₁) trees
+      group-room h f g =
+          let all : length (firsts zs) ≡ length (supported ts) = firsts-long us B sorts ∙ ap length (supported-canon ts A) in
+          record {
+            long = omega (arith, length-take-le m clades₁ noted-few.0, length-take-le m numbers₁ noted-few.1);
+            few = h;
+            room = omega (arith, ap length cs, all);
+            rooms = omega (arith, ap length cs, all);
+          }
 
       pub support-listed : {out out' outs outs' : List ℕ} {trees r : ℕ} → trees ≡ length ts
           → Regrouped (take m clades₁) (take m numbers₁) out out' outs outs' trees r → SupportListed ts out out' outs outs' r
       support-listed {out} {out'} {outs} {outs'} {trees} {r} e R =
-          let cs : take m clades₁ ≡ firsts zs = begins (omega (arith, m-few, room)) each in
-          let ns : take m numbers₁ ≡ sizes zs = begins (omega (arith, m-few, beside)) often in
           let so : trees ≡ length us = e ∙ sym (length-map ts canon) in
           record {
             each = rw (← supported-canon ts A, ← grouped-supported us B sorts, ← cs, ← ns, ← so) R.each;

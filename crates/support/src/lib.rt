@@ -11,7 +11,7 @@ ghost use Rattle.support.specs.Supports.{SupportRoom, SupportListed};
 use held::Table;
 use sorting::Pool;
 
-// Lists each clade of two or more labels of the table's trees once, and how many trees have it; returns how many there are.
+/// Lists each clade of two or more labels of the table's trees once, and how many trees have it; returns how many there are.
 pub fn list_support(out: &mut [u64], outs: &mut [u16], table: Table) -> usize
     requires { SupportRoom table out.old outs.old }
     ensures { (ts : List Topology) → KeepsAll table ts
@@ -19,9 +19,10 @@ pub fn list_support(out: &mut [u64], outs: &mut [u16], table: Table) -> usize
 {
     let mut pool = [0u64; Pool::SIZE];
     let n = gather::gather(&mut pool, table);
+    let pool = &mut pool[..n];
+    sorting::sort(pool);
     let mut clades = [0u64; Pool::SIZE];
-    sorting::sort(&mut pool, &mut clades, 0, n);
     let mut numbers = [0u16; Pool::SIZE];
-    let m = counted::distinct(&mut clades, &mut numbers, &pool, n);
-    counted::regroup(out, outs, &clades, &numbers, m, table.len)
+    let m = counted::distinct(&mut clades, &mut numbers, pool);
+    counted::regroup(out, outs, &clades[..m], &numbers[..m], table.len)
 }

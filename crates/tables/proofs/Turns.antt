@@ -8,22 +8,18 @@ use Prim.Native.Nat.{ℕ, ◌+◌, ◌-◌, ◌≤◌, ◌<◌}
 use native.Mathlib.Omega.{arith}
 use lib.ListN.{length, length-append, length-map}
 use Rattle.meaning.specs.Kind.{Kind, rooted, unrooted, Kinded, as_trees, Takes}
-use Rattle.meaning.specs.Reading.{Read, and_then, skip, tree_at, untaken, same_kind, unlike, like_first, or_differs, table_from, read_table}
-use Rattle.meaning.specs.Answer.{refusal}
+use Rattle.meaning.specs.Reading.{Read, refused, and_then, skip, is_blank, tree_at, untaken, same_kind, unlike, like_first, or_differs, table_from, read_table}
 use Rattle.meaning.proofs.Logic.{clash}
+use Rattle.meaning.proofs.Scan.{skip-le}
 use Rattle.meaning.proofs.Sound.{tree-behind}
 use Rattle.meaning.proofs.Ways.{table-ends, table-full, table-next}
 use Rattle.held.specs.Kept.{kind_of, KeepsKind, held_at, KeepsTrees, FitsBehind, behind, Adds}
 use Rattle.held.specs.declared.Table.{Table}
 use Rattle.held.specs.declared.Tree.{Tree}
-use Rattle.tokens.specs.Paper.{going_on, step_answer, StepMeets}
-use Rattle.reading.specs.Whole.{TreeMeets}
-use Rattle.tables.specs.Table.{TableMeets}
-use Rattle.tokens.specs.declared.Refusal.{Refusal}
+use Rattle.tokens.specs.Paper.{Accepts}
+use Rattle.reading.specs.Whole.{Reads}
 use Rattle.reading.specs.declared.TreeRead.{TreeRead}
-use Rattle.tokens.specs.declared.Step.TheVariants.{Next, Refused}
-use Rattle.tables.specs.declared.TableRead.{TableRead}
-use Rattle.tokens.proofs.Steps.{then-got, differs-ends, differs_none, step-got, step-refused, step-next, step-ends}
+use Rattle.tokens.proofs.Steps.{then-got, differs-ends, differs_none}
 
 -- ---- the trees of a table
 pub as-length : (xs : List Kinded) → length (as_trees xs).trees ≡ length xs
@@ -50,11 +46,12 @@ like-fits takes (first ∷ xs) x e = inr (kinds-fit first.kind x.kind _ e)
 pub record State (takes : Takes) (s : List ℕ) (table : Table) (at : ℕ) : Type 0 where
   pub done : List Kinded
   pub keeps : KeepsTrees table (as_trees done)
+  pub within : at ≤ length s
   pub same : read_table takes s ≡ table_from takes (160 - table.len) s at done
 
 pub start : (takes : Takes) (s : List ℕ) (table : Table) (at : ℕ) → KeepsTrees table (as_trees []) → at ≡ skip s 0 → State takes s table at
 unfolding read_table
-start takes s table at h e = record { done = []; keeps = h; same = rw (h.all.count, e) }
+start takes s table at h e = record { done = []; keeps = h; within = rw e (skip-le is_blank s 0 (omega arith)); same = rw (h.all.count, e) }
 
 -- what follows the tree x, whose text ends at p, behind the trees `done`
 abbrev next : Takes → List ℕ → Table → List Kinded → Kinded → ℕ → Read (List Kinded)
@@ -64,76 +61,60 @@ next takes s table done x p = table_from takes (160 - (table.len + 1)) s (skip s
 abbrev goes : Takes → List ℕ → Table → List Kinded → Kinded → ℕ → Read (List Kinded)
 goes takes s table done x p = or_differs (like_first takes done x) p (next takes s table done x p)
 
--- a tree is read where the table has room
-pub record TreeIn (takes : Takes) (s : List ℕ) (table : Table) (at : ℕ) (read : TreeRead) (p : ℕ) : Type 0 where
-  pub state : State takes s table at
-  pub tree : Kinded
-  pub keeps : KeepsKind read.tree tree
-  pub left : table.len < 160
-  pub place : 1 ≤ p
-  pub next : read_table takes s ≡ goes takes s table state.done tree p
-
 module _ {takes : Takes} {s : List ℕ} {table : Table} {at : ℕ} (st : State takes s table at) where
-  pub at-end : length s ≤ at → TableMeets (record { step = Next at table.len; table = table }) (read_table takes s)
-  at-end h = step-got (st.same ∙ table-ends takes (160 - table.len) s at st.done h) (ap (going_on at) (st.keeps.all.count ∙ as-length st.done)) st.keeps
+  pub at-end : length s ≤ at → Accepts (read_table takes s) (length s) (λ xs. KeepsTrees table (as_trees xs))
+  at-end h =
+      let e : at ≡ length s = omega (arith, st.within) in
+      record { value = st.done; is = rw (← e) (st.same ∙ table-ends takes (160 - table.len) s at st.done h); keeps = st.keeps }
 
   module _ (more : at < length s) where
-    pub at-full : {r : TableRead} → 160 ≤ table.len → step_answer r.step ≡ refusal 6 0 at → TableMeets r (read_table takes s)
-    at-full e h = step-refused (st.same ∙ table-full takes (160 - table.len) s at st.done more (omega arith)) h
+    pub at-full : 160 ≤ table.len → read_table takes s ≡ refused 6 at
+    at-full e = st.same ∙ table-full takes (160 - table.len) s at st.done more (omega arith)
 
-    module _ (room : table.len ≡ 160 → ⊥) {read : TreeRead} (m : TreeMeets read (tree_at s at)) where
-      more-trees : read_table takes s ≡ and_then (tree_at s at) (goes takes s table st.done)
+    module _ (room : table.len ≡ 160 → ⊥) where
+      pub left : table.len < 160
+      left = omega (arith, st.keeps.all.count, st.keeps.all.few, room)
+
+      pub more-trees : read_table takes s ≡ and_then (tree_at s at) (goes takes s table st.done)
       more-trees =
           let z : 160 - table.len - 1 ≡ 160 - (table.len + 1) = omega arith in
-          rw z at (st.same ∙ table-next takes (160 - table.len) s at st.done more (omega (arith, st.keeps.all.count, st.keeps.all.few, room)))
+          rw z at (st.same ∙ table-next takes (160 - table.len) s at st.done more (omega (arith, left)))
 
-      pub at-refused : {Keep : List Kinded → Type 0} {x : Refusal} → read.step ≡ Refused x → StepMeets length Keep read.step (read_table takes s)
-      at-refused e = rw more-trees (step-ends (goes takes s table st.done) m e)
+      -- a tree is read, and it is tried whether it can stand behind the others; n is the line that says why not, or 0
+      module _ {read : TreeRead} (T : Accepts (tree_at s at) read.behind (Reads read)) where
+        pub place : 1 ≤ read.behind
+        place = omega (arith, (tree-behind s at T.value read.behind T.is).0)
 
-      pub tree-in : {p k : ℕ} → read.step ≡ Next p k → TreeIn takes s table at read p
-      tree-in {p} e =
-          let D = step-next m e in
-          record {
-            state = st;
-            tree = D.value;
-            keeps = D.keeps;
-            left = omega (arith, st.keeps.all.count, st.keeps.all.few, room);
-            place = omega (arith, (tree-behind s at D.value p D.is).0);
-            next = more-trees ∙ then-got (goes takes s table st.done) D.is;
-          }
+        module _ {n : ℕ} (f : (xs : List Kinded) (x : Kinded) → KeepsTrees table (as_trees xs) → KeepsKind read.tree x → n ≡ like_first takes xs x) where
+          line : like_first takes st.done T.value ≡ n
+          line = sym (f st.done T.value st.keeps T.keeps.keeps)
 
--- it is tried whether it can stand behind the others; b is the line that says why not, or 0
-module _ {takes : Takes} {s : List ℕ} {table : Table} {at : ℕ} {read : TreeRead} {p : ℕ} (T : TreeIn takes s table at read p) {b : ℕ}
-    (f : (xs : List Kinded) (x : Kinded) → KeepsTrees table (as_trees xs) → KeepsKind read.tree x → b ≡ like_first takes xs x) where
-  line : like_first takes T.state.done T.tree ≡ b
-  line = sym (f T.state.done T.tree T.state.keeps T.keeps)
+          abbrev rest : Read (List Kinded)
+          rest = next takes s table st.done T.value read.behind
 
-  abbrev more : Read (List Kinded)
-  more = next takes s table T.state.done T.tree p
+          pub at-differs : 1 ≤ n → read_table takes s ≡ refused n (read.behind - 1)
+          at-differs h = more-trees ∙ then-got (goes takes s table st.done) T.is ∙ rw line (differs-ends n read.behind rest h)
 
-  pub at-differs : {r : TableRead} → (b ≡ 0 → ⊥) → step_answer r.step ≡ refusal b 0 (p - 1) → TableMeets r (read_table takes s)
-  at-differs e h = step-refused (T.next ∙ rw line (differs-ends b p more e)) h
+          -- it is kept behind them
+          module _ (e : n ≡ 0) {table' : Table} (push : Adds table read.tree table') where
+            pushed : KeepsTrees table' (as_trees (st.done ++ (T.value ∷ [])))
+            pushed =
+                let fits = like-fits takes st.done T.value (line ∙ e) in
+                rw (as-behind st.done T.value fits) (push (as_trees st.done) T.value st.keeps T.keeps.keeps fits)
 
-  -- it is kept behind them
-  module _ (e : b ≡ 0) {table' : Table} (push : Adds table read.tree table') where
-    pushed : KeepsTrees table' (as_trees (T.state.done ++ (T.tree ∷ [])))
-    pushed =
-        let fits = like-fits takes T.state.done T.tree (line ∙ e) in
-        rw (as-behind T.state.done T.tree fits) (push (as_trees T.state.done) T.tree T.state.keeps T.keeps fits)
+            one_more : table'.len ≡ table.len + 1
+            one_more = omega (arith, pushed.all.count, as-length (st.done ++ (T.value ∷ [])), length-append st.done (T.value ∷ []), as-length st.done, st.keeps.all.count)
 
-    one_more : table'.len ≡ table.len + 1
-    one_more =
-        omega (arith, pushed.all.count, as-length (T.state.done ++ (T.tree ∷ [])), length-append T.state.done (T.tree ∷ []), as-length T.state.done, T.state.keeps.all.count)
+            pub falls : 160 - table'.len < 160 - table.len
+            falls = omega (arith, one_more, left)
 
-    pub falls : 160 - table'.len < 160 - table.len
-    falls = omega (arith, one_more, T.left)
-
-    pub at_more : {at' : ℕ} → at' ≡ skip s p → State takes s table' at'
-    at_more h = record {
-      done = T.state.done ++ (T.tree ∷ []);
-      keeps = pushed;
-      same = T.next ∙ differs_none (like_first takes T.state.done T.tree) p more (line ∙ e) ∙ rw (one_more, h);
-    }
+            pub at_more : {at' : ℕ} → at' ≡ skip s read.behind → State takes s table' at'
+            at_more h = record {
+              done = st.done ++ (T.value ∷ []);
+              keeps = pushed;
+              within = rw h (skip-le is_blank s read.behind (tree-behind s at T.value read.behind T.is).1);
+              same = more-trees ∙ then-got (goes takes s table st.done) T.is ∙ differs_none (like_first takes st.done T.value) read.behind rest (line ∙ e) ∙ rw (one_more, h);
+            }
 
 -- ---- the comparison with the first
 pub like-none : (takes : Takes) (xs : List Kinded) (x : Kinded) (table : Table) (tree : Tree) (r : ℕ) → KeepsTrees table (as_trees xs) → KeepsKind tree x → table.len ≡ 0

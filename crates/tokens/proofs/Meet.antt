@@ -1,4 +1,4 @@
--- What a reader's step says of `Read`: nodes, tokens and labels.
+-- What a reader's step says of `Read`: tokens and labels.
 -- Assumes nothing.
 use mathlib.Core.Path.{◌≡◌, refl, sym, ap, ◌∙◌}
 use mathlib.Core.Bool.{Bool, true, false}
@@ -7,36 +7,16 @@ use Prim.Native.Nat.{ℕ, ◌+◌, ◌≤◌, ◌<◌, min}
 use native.Mathlib.Omega.{arith}
 use lib.Dec.{eqb}
 use lib.ListN.{length, get_or, set}
-use lib.Seq.{length-sets}
 use Rattle.meaning.specs.Lists.{member}
-use Rattle.meaning.specs.Tree.{Tree, leaf, In, tip, Good}
-use Rattle.meaning.specs.Reading.{Read, got, refused, and_then, or_wrong, is_blank, skip, token, label_at, value, run_end, byte_at, bad_label}
-use Rattle.meaning.specs.Answer.{refusal}
+use Rattle.meaning.specs.Tree.{leaf, In, tip, Good}
+use Rattle.meaning.specs.Reading.{Read, got, and_then, or_wrong, is_blank, skip, token, exactly, label_at, value, run_end, byte_at, bad_label}
 use Rattle.meaning.proofs.Complete.{New}
 use Rattle.meaning.proofs.Scan.{past-ge}
 use Rattle.meaning.proofs.Sound.{Silent}
 use Rattle.meaning.proofs.Ways.{reads, gives-got, token-gives, label-range, label-new}
-use Rattle.held.specs.Held.{nodes, pre}
-use Rattle.tokens.specs.Draft.{too_large, seen, Tells, Draft, Written, Meets, token_at}
-use Rattle.tokens.specs.Paper.{going_on, step_answer}
-use Rattle.tokens.specs.declared.Step.{Step}
+use Rattle.tokens.specs.Draft.{too_large, seen, Tells, Draft, Written, token_at}
+use Rattle.tokens.specs.Mark.{exactly_at}
 use Rattle.tokens.proofs.Draft.{fits_more, tells_more}
-use Rattle.tokens.proofs.Steps.{Accepts, step-got, step-refused}
-
--- ---- a node that was accepted, and a token
-abbrev pub Accepted : List ℕ → List ℕ → List Bool → ℕ → Read Tree → ℕ → ℕ → Type 0
-Accepted node node' marks' at g p k = Accepts (λ t. at + nodes t) (Written node node' marks' at) g p k
-
-abbrev pub Passed : ℕ → Read (Unit {0}) → ℕ → ℕ → Type 0
-Passed at g p k = Accepts (λ u. at) (λ u. Unit {0}) g p k
-
--- ---- an accepted node, and a refused one
-module _ {g : Read Tree} {node node' : List ℕ} {marks' : List Bool} {at : ℕ} {r : Step} where
-  pub meets-got : {t : Tree} {p : ℕ} → g ≡ got t p → step_answer r ≡ going_on p (at + nodes t) → Written node node' marks' at t → Meets node node' marks' at g r
-  meets-got {t} e h k = record { step = step-got e h k; same = ap length k.cells ∙ length-sets node at (pre t) }
-
-  pub meets-refused : {n p : ℕ} → g ≡ refused n p → step_answer r ≡ refusal n 0 p → length node' ≡ length node → Meets node node' marks' at g r
-  meets-refused e h k = record { step = step-refused e h; same = k }
 
 -- ---- the byte behind the blanks at p, as it was asked for
 pub byte-is : (s : List ℕ) (p : ℕ) {q b : ℕ} → q ≡ skip s p → b ≡ get_or s q 0 → byte_at s (skip s p) ≡ b
@@ -44,6 +24,11 @@ byte-is s p e f = ap (λ (j : ℕ). get_or s j 0) (sym e) ∙ sym f
 
 -- ---- a token
 module _ (b : ℕ) (s : List ℕ) (p : ℕ) where
+  -- it stands behind the blanks
+  pub token-exactly : exactly_at b s (skip s p) ≡ token_at b s p
+  unfolding token exactly
+  token-exactly = refl
+
   -- what follows it is read where it ends
   pub token-then : {A : Type 0} (next : ℕ → Read A) → token b s p next ≡ and_then (token_at b s p) (λ u q. next q)
   unfolding token
@@ -86,8 +71,12 @@ module _ {s : List ℕ} {q : ℕ} {node : List ℕ} {at v : ℕ} (k : Checked s 
     pub label-room : at + 1 ≤ length node
     label-room = fits_more d leaf-good leaf-new
 
-    pub label-got : {r : Step} → step_answer r ≡ going_on (run_end s q) (at + 1) → Meets node (set node at v) (set marks v true) at (label_at s q (seen node at)) r
-    label-got e = meets-got (label-new s q (seen node at) k.allowed k.held) e (record {
+    pub label-is : label_at s q (seen node at) ≡ got (leaf (value s q)) (run_end s q)
+    label-is = label-new s q (seen node at) k.allowed k.held
+
+    pub label-written : Written node (set node at v) (set marks v true) at (at + 1) (leaf (value s q))
+    label-written = record {
       cells = ap (set node at) k.same;
+      count = refl;
       marked = rw (← k.same) (tells_more d.marked v k.small);
-    })
+    }

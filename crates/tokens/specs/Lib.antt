@@ -1,3 +1,4 @@
 pub mod Draft
 pub mod Mark
 pub mod Paper
+pub mod Printed

@@ -4,72 +4,59 @@ ghost use Rattle.meaning.specs.Reading.{letter_at, mark_at};
 ghost use Rattle.tokens.specs.Draft.{TokenMeets};
 ghost use Rattle.tokens.specs.Mark.{exactly_at, MarkMeets};
 
-use super::{Refusal, Step};
+use super::{Reason, Refusal};
 use held::Kind;
 
-// What reading a mark gives: the step, and the kind, which counts only where reading goes on.
-#[derive(Drop)]
-pub struct Marked {
-    pub step: Step,
+/// A mark: the kind that it gives a tree, and the place behind it.
+#[derive(Clone, Copy, Debug, PartialEq, Eq)]
+pub struct Mark {
     pub kind: Kind,
+    pub behind: usize,
 }
 
-// The byte b at p itself, with no blank before it: where reading goes on behind it.
-fn expect_exactly(s: &[u8], p: usize, b: u8) -> Step
+/// The byte b at p itself, with no blank before it: the place behind it. Refused with 1 where it does not stand there, at p.
+pub fn expect_exactly(s: &[u8], p: usize, b: u8) -> Result<usize, Refusal>
     requires { 0 < b }
-    ensures { TokenMeets 0 (exactly_at b s.now p) result }
+    ensures { TokenMeets (exactly_at b s.now p) result }
 {
-    if super::byte_at(s, p) == b {
-        Step::Next(p + 1, 0)
-    } else {
-        super::refuse(Refusal::WRONG_BYTE, p)
+    if super::byte_at(s, p) != b {
+        return Err(Reason::WrongByte.at(p));
     }
+    Ok(p + 1)
 }
 
 // The letter of a mark.
-fn read_letter(s: &[u8], p: usize) -> Marked
-    ensures { MarkMeets result (letter_at s.now p) }
+fn read_letter(s: &[u8], p: usize) -> Result<Mark, Refusal>
+    ensures { MarkMeets (letter_at s.now p) result }
 {
-    let b = super::byte_at(s, p);
-    let unrooted = b == b'U';
-    if unrooted {
-        return Marked {
-            step: Step::Next(p + 1, 0),
+    if super::byte_at(s, p) == b'U' {
+        return Ok(Mark {
             kind: Kind::Unrooted,
-        };
+            behind: p + 1,
+        });
     }
-    Marked {
-        step: expect_exactly(s, p, b'R'),
+    Ok(Mark {
         kind: Kind::Rooted,
-    }
+        behind: expect_exactly(s, p, b'R')?,
+    })
 }
 
-// The mark behind blanks, or none.
-pub fn read_mark(s: &[u8], from: usize) -> Marked
-    ensures { MarkMeets result (mark_at s.now from) }
+/// The mark behind blanks: its kind and the place behind it; where none begins there, rooted and `from`. Refused with 1 where a
+/// bracket begins no mark, at the byte that is wrong.
+pub fn read_mark(s: &[u8], from: usize) -> Result<Mark, Refusal>
+    ensures { MarkMeets (mark_at s.now from) result }
 {
     let q = super::skip_blanks(s, from);
     if super::byte_at(s, q) != b'[' {
-        return Marked {
-            step: Step::Next(from, 0),
+        return Ok(Mark {
             kind: Kind::Rooted,
-        };
+            behind: from,
+        });
     }
-    let ampersand = expect_exactly(s, q + 1, b'&');
-    let Step::Next(p, _) = ampersand else {
-        return Marked {
-            step: ampersand,
-            kind: Kind::Rooted,
-        };
-    };
-    let letter = read_letter(s, p);
-    let step = letter.step;
-    let kind = letter.kind;
-    let Step::Next(p2, _) = step else {
-        return letter;
-    };
-    Marked {
-        step: expect_exactly(s, p2, b']'),
-        kind,
-    }
+    let p = expect_exactly(s, q + 1, b'&')?;
+    let letter = read_letter(s, p)?;
+    Ok(Mark {
+        kind: letter.kind,
+        behind: expect_exactly(s, letter.behind, b']')?,
+    })
 }

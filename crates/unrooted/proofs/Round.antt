@@ -18,7 +18,7 @@ use Rattle.pairs.specs.Ordered.{InOrder}
 use Rattle.pairs.specs.Left.{Alike}
 use Rattle.pairs.proofs.Children.{holds-first}
 use Rattle.pairs.proofs.Ways.{alike}
-use Rattle.unrooted.specs.Turned.{OrderedFork, whole, TurnedAt, Ends}
+use Rattle.unrooted.specs.Turned.{OrderedFork, TurnedAt, Ends}
 use Rattle.unrooted.proofs.Path.{step_of}
 
 -- t hangs from its smallest label m, and s is beside it
@@ -35,6 +35,12 @@ round {a} {b} D e =
     let t = fork a b in
     let f = hang-turned t D.canonical ∙ e in
     record { smallest = at_leaf (hang-hung a b) f; distinct = subst Distinct f (hang-distinct t D.distinct); splits = subst (SameSplits t) f (hang-splits t D.distinct) }
+
+round-of : {xs : List ℕ} {k p : ℕ} {t : Tree} → OrderedFork t → (e : Ends xs k p t) → Round t (get_or xs (p + 1) 0) e.rest.tree
+round-of o e = go o.is o.in_order e.is
+  where
+    go : {v a b : Tree} {m : ℕ} {s : Tree} → v ≡ fork a b → InOrder v → turn_round v ≡ fork (leaf m) s → Round v m s
+    go f D g = rw f (round (rw f at D) (rw f at g))
 
 module _ {t u : Tree} {m n : ℕ} {s r : Tree} (R : Round t m s) (S : Round u n r) where
   same-leaf : SameSplits t u → m ≡ n
@@ -55,13 +61,13 @@ pub leaf-fits : {xs : List ℕ} {k p : ℕ} → TurnedAt xs k p → p + 1 < leng
 leaf-fits t = within (holds-first (step_of t).holds)
 
 -- so a test of both says whether they are one unrooted tree
-module _ {xs ys : List ℕ} {k p q : ℕ} (t : OrderedFork xs k) (u : OrderedFork ys k) (e : Ends xs k p (whole t)) (f : Ends ys k q (whole u)) where
-  pub other-leaf : ¬ (get_or xs (p + 1) 0 ≡ get_or ys (q + 1) 0) → ¬ SameSplits (whole t) (whole u)
-  other-leaf n h = n (same-leaf (round t.in_order e.is) (round u.in_order f.is) h)
+module _ {xs ys : List ℕ} {k l p q : ℕ} {t u : Tree} (o : OrderedFork t) (o' : OrderedFork u) (e : Ends xs k p t) (f : Ends ys l q u) where
+  pub other-leaf : ¬ (get_or xs (p + 1) 0 ≡ get_or ys (q + 1) 0) → ¬ SameSplits t u
+  other-leaf n h = n (same-leaf (round-of o e) (round-of o' f) h)
 
-  pub splits-says : get_or xs (p + 1) 0 ≡ get_or ys (q + 1) 0 → (d : Bool) → Says d (Alike e.rest.tree f.rest.tree) → Says d (SameSplits (whole t) (whole u))
+  pub splits-says : get_or xs (p + 1) 0 ≡ get_or ys (q + 1) 0 → (d : Bool) → Says d (Alike e.rest.tree f.rest.tree) → Says d (SameSplits t u)
   splits-says equal =
-      let R = round t.in_order e.is in
-      let S = round u.in_order f.is in
+      let R = round-of o e in
+      let S = round-of o' f in
       let iff = ≈-iff-canon e.rest.distinct in
-      says (Alike e.rest.tree f.rest.tree) (SameSplits (whole t) (whole u)) (λ a. parts-splits R S equal (iff.1 a)) (λ h. iff.0 (splits-parts R S h))
+      says (Alike e.rest.tree f.rest.tree) (SameSplits t u) (λ a. parts-splits R S equal (iff.1 a)) (λ h. iff.0 (splits-parts R S h))

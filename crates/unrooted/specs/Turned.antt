@@ -6,16 +6,17 @@ use Rattle.meaning.specs.Unrooted.{turn_round}
 use Rattle.held.specs.Held.{Holds}
 use Rattle.pairs.specs.Ordered.{InOrder}
 
--- xs holds a fork in order at k
-pub record OrderedFork (xs : List ℕ) (k : ℕ) : Type 0 where
+-- t is a fork in order
+pub record OrderedFork (t : Tree) : Type 0 where
   pub first : Tree
   pub second : Tree
-  pub holds : Holds xs k (fork first second)
-  pub in_order : InOrder (fork first second)
+  pub is : t ≡ fork first second
+  pub in_order : InOrder t
 
--- that fork
-abbrev pub whole : {xs : List ℕ} {k : ℕ} → OrderedFork xs k → Tree
-whole f = fork f.first f.second
+-- b is the second child of the fork that xs holds at k
+pub record HangsOff (xs : List ℕ) (k : ℕ) (b : Tree) : Type 0 where
+  pub first : Tree
+  pub holds : Holds xs k (fork first b)
 
 -- p is a fork of the leftmost path of the tree at k, and without its first child that tree hangs from it as s: the fork's second child, beside what hangs from the fork above
 pub data Turned (xs : List ℕ) (k : ℕ) : ℕ → Tree → Type 0 where

@@ -2,7 +2,7 @@
 -- Assumes nothing.
 use mathlib.Core.Path.{◌≡◌, sym, ap, subst, ◌∙◌}
 use mathlib.Core.List.{List, [], ◌∷◌, ◌++◌, append_assoc}
-use Prim.Native.Nat.{ℕ, ◌+◌, ◌*◌, ◌-◌, ◌<◌}
+use Prim.Native.Nat.{ℕ, ◌+◌, ◌*◌, ◌-◌, ◌≤◌, ◌<◌}
 use native.Mathlib.Omega.{arith}
 use lib.ListN.{length, length-append}
 use Rattle.meaning.specs.Tree.{Tree, fork, In, Good, leaves, canon, write}
@@ -11,7 +11,10 @@ use Rattle.meaning.proofs.Canon.{canon-canonical, canonical-canon}
 use Rattle.meaning.proofs.Forests.{cuts-canon, cut_at-good}
 use Rattle.lent.specs.Runs.{Wrote}
 use Rattle.lent.proofs.Runs.{wrote-more, wrote-length}
-use Rattle.held.specs.Held.{Holds, Room, HasCut, hold, cut_in}
+use Rattle.held.specs.Held.{Holds, Held, HasCut, hold, cut_in}
+use Rattle.held.specs.Node.{subtree}
+use Rattle.held.specs.declared.node.Node.{Node}
+use Rattle.held.proofs.Subtree.{at-node}
 use Rattle.held.specs.Kept.{Keeps}
 use Rattle.held.specs.declared.Tree.{Tree as Record}
 use Rattle.held.proofs.Laws.{unique}
@@ -68,26 +71,36 @@ module _ {tree : Record} {c at len : ℕ} (f : ForestFits tree c at len) where
   pub cut-of-tree : HasCut tree.node c
   cut-of-tree = has-cut f.keeps f.is_cut
 
-  -- room for each component; `left` is what `remainder` returns
+  -- each component's node; `left` is what `remainder` returns
   module _ (left : Record) (gives : (u : Tree) → Holds tree.node 0 u → left.node ≡ hold (canon (cut_in u c).rest)) where
-    pub room-left : Room (λ t. at + length (write t) + 1) left.node 0 len
-    room-left = record { tree = canon k.rest; holds = left-holds f.keeps f.is_cut left gives; room = omega (arith, f.room, length-forest k) }
+    pub rest-held : Held left.node 0
+    rest-held = record { tree = canon k.rest; holds = left-holds f.keeps f.is_cut left gives }
 
-    pub room-pruned : {out o₁ : List ℕ} {r : ℕ} → length out ≡ len → ((t : Tree) → Holds left.node 0 t → Wrote (write t ++ (32 ∷ [])) out o₁ at r)
-        → Room (λ t. r + length (write t) + 1) tree.node (c + 1) (length o₁)
-    room-pruned same wrote =
-        let w = wrote (canon k.rest) (left-holds f.keeps f.is_cut left gives) in
-        record {
-          tree = canon k.pruned;
-          holds = pruned-holds f.keeps f.is_cut;
-          room = omega (arith, f.room, length-forest k, w.behind, wrote-length w, length-append (a k) (32 ∷ []));
-        }
+    pub pruned-held : Held tree.node (c + 1)
+    pruned-held = record { tree = canon k.pruned; holds = pruned-holds f.keeps f.is_cut }
 
-    -- whichever tree of the topology is named
-    pub wrote-parts : {out o₁ o₂ : List ℕ} {r₁ r₂ : ℕ} → ((t : Tree) → Holds left.node 0 t → Wrote (write t ++ (32 ∷ [])) out o₁ at r₁)
-        → ((t : Tree) → Holds tree.node (c + 1) t → Wrote (write t ++ (59 ∷ [])) o₁ o₂ r₁ r₂)
-        → (t : Tree) → Keeps tree t → Wrote (forest (cut_at t c)) out o₂ at r₂
-    wrote-parts p q t l =
-        let same : leaves (canon t) ≡ leaves (canon f.topology) = ap leaves (unique (keeps-holds l) (keeps-holds f.keeps)) in
-        let h : c < 2 * leaves t - 2 = omega (arith, f.is_cut, leaves-canon t, leaves-canon f.topology) in
-        wrote-forest (cut_at t c) (p (canon (cut_at t c).rest) (left-holds l h left gives)) (q (canon (cut_at t c).pruned) (pruned-holds l h))
+    module _ (rest pruned : Node) (at-rest : (rest.tree.now ≡ left.node) × (rest.at ≡ 0)) (at-pruned : (pruned.tree.now ≡ tree.node) × (pruned.at ≡ c + 1)) where
+      module _ {t : Tree} (l : Keeps tree t) (h : c < 2 * leaves t - 2) where
+        rest-is : subtree rest ≡ canon (cut_at t c).rest
+        rest-is = at-node rest at-rest (left-holds l h left gives)
+
+        pruned-is : subtree pruned ≡ canon (cut_at t c).pruned
+        pruned-is = at-node pruned at-pruned (pruned-holds l h)
+
+      parts-room : length (forest k) ≡ (length (write (subtree rest)) + 1) + (length (write (subtree pruned)) + 1)
+      parts-room = omega (arith, length-forest k, ap (λ (t : Tree). length (write t)) (rest-is f.keeps f.is_cut), ap (λ (t : Tree). length (write t)) (pruned-is f.keeps f.is_cut))
+
+      pub room-left : at + length (write (subtree rest)) + 1 ≤ len
+      room-left = omega (arith, f.room, parts-room)
+
+      pub room-pruned : {out o₁ : List ℕ} {r : ℕ} → length out ≡ len → Wrote (write (subtree rest) ++ (32 ∷ [])) out o₁ at r
+          → r + length (write (subtree pruned)) + 1 ≤ length o₁
+      room-pruned same w = omega (arith, f.room, parts-room, w.behind, wrote-length w, length-append (write (subtree rest)) (32 ∷ []))
+
+      -- whichever tree of the topology is named
+      pub wrote-parts : {out o₁ o₂ : List ℕ} {r₁ r₂ : ℕ} → Wrote (write (subtree rest) ++ (32 ∷ [])) out o₁ at r₁ → Wrote (write (subtree pruned) ++ (59 ∷ [])) o₁ o₂ r₁ r₂
+          → (t : Tree) → Keeps tree t → Wrote (forest (cut_at t c)) out o₂ at r₂
+      wrote-parts p q t l =
+          let same : leaves (canon t) ≡ leaves (canon f.topology) = ap leaves (unique (keeps-holds l) (keeps-holds f.keeps)) in
+          let h : c < 2 * leaves t - 2 = omega (arith, f.is_cut, leaves-canon t, leaves-canon f.topology) in
+          wrote-forest (cut_at t c) (rw (rest-is l h) at p) (rw (pruned-is l h) at q)

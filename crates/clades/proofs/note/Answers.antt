@@ -1,84 +1,52 @@
--- `clades::note` meets its contract. The loop's invariant: the nodes from k on are marked.
--- Assumes nothing.
-use mathlib.Core.Path.{◌≡◌}
-use mathlib.Core.List.{List}
-use Prim.Native.Nat.{ℕ, ◌+◌, ◌-◌, ◌<◌}
-use native.Mathlib.Omega.{arith}
-use lib.ListN.{length, length-set}
+-- A leaf's mark is its label's bit, and a fork's is the sum of its children's, which stand behind it.
+use Rattle.std.proofs.Common.{◌+◌, ◌-◌, ◌<◌, length-set, ap, arith}
 use Rattle.meaning.specs.Limits.{max_nodes}
 use Rattle.meaning.specs.Tree.{Tree}
 use Rattle.meaning.specs.Clade.{clade}
 use Rattle.held.specs.Held.{nodes, Holds}
-use Rattle.held.proofs.Laws.{within, some-nodes, few-nodes}
+use Rattle.held.proofs.Laws.{some-nodes, few-nodes}
+use Rattle.held.proofs.Subtree.{at-node, at-each}
 use Rattle.clades.specs.Marks.{Marks}
-use Rattle.clades.proofs.Laws.{Sub, node_in, marks-more, bit_is, label-range, fork-of, behind, sum_is, sum_fits}
-use Rattle.clades.proofs.note.Goals.{After-width, In-loop-k, Start}
+use Rattle.clades.proofs.Laws.{Sub, node_in, marks-more, bit_is, label-range, behind, sum_is, sum_fits}
+use Rattle.clades.proofs.note.Goals.{In-loop-k, In-Leaf, In-Fork}
 use Rattle.clades.proofs.note.Goals as goal
 
--- ---- a turn of the loop, once the byte is read
-abbrev Turn : Type 0
-Turn = In-loop-k
-
-abbrev at : Turn → ℕ
-at u = u.loop-k.k - 1
-
-abbrev xs : Turn → List ℕ
-xs u = u.args.n.now
-
-abbrev ms : Turn → List ℕ
-ms u = u.loop-k.m
-
 -- the subtree at the turn's node
-here : (u : Turn) → Sub (xs u) (at u) (nodes u.requires.tree)
+here : (u : In-loop-k) → Sub u.args.n.now (u.loop-k.k - 1) (nodes u.requires.tree)
 here u =
     let p = u.requires in
-    node_in p.tree p.holds p.good (at u) (omega (arith, (u.loop-k.invariant.1 p.tree p.holds).0, u.loop-k-test.true))
+    node_in p.tree p.holds p.good (u.loop-k.k - 1) (omega (arith, u.width-k.ensures, ap nodes (at-node u.new-root.result u.new-root.ensures p.holds)))
 
-few : (u : Turn) → at u < max_nodes
+few : (u : In-loop-k) → u.loop-k.k - 1 < max_nodes
 few u = omega (arith, few-nodes u.requires.good, (here u).inside, some-nodes (here u).tree)
 
-room : (u : Turn) → at u < length (ms u)
-room u = omega (arith, few u, u.loop-k.invariant.0)
-
 -- the nodes behind it are marked
-marked : (u : Turn) (t : Tree) → Holds (xs u) 0 t → Marks clade (xs u) (ms u) (at u + 1) (nodes t)
-marked u t h k le = (u.loop-k.invariant.1 t h).1 k (omega (arith, u.loop-k-test.true))
+marked : (u : In-loop-k) (t : Tree) → Holds u.args.n.now 0 t → Marks clade u.args.n.now u.loop-k.m (u.loop-k.k - 1 + 1) (nodes t)
+marked u t h k le = u.loop-k.invariant.1 t h k (omega (arith, u.loop-k-test.true))
 
--- the width of the first child is known
-abbrev Wide : Type 0
-Wide = After-width
-
-abbrev turn : Wide → Turn
-turn w = (goal.at.After-width w).In-loop-k
-
-width_is : (w : Wide) → w.width.result ≡ nodes (fork-of (here (turn w)) w.if-b-le-FORK.false).first
-width_is w = let f = fork-of (here (turn w)) w.if-b-le-FORK.false in w.width.ensures f.first f.holds-first
-
-ends : (w : Wide) → at (turn w) + 1 + w.width.result < max_nodes
-ends w = omega (arith, behind (here (turn w)) w.if-b-le-FORK.false w.width.result (width_is w), few-nodes w.requires.good)
-
--- the children behind it are marked
-behind-marked : (w : Wide) → let u = turn w in Marks clade (xs u) (ms u) (at u + 1) (nodes u.requires.tree)
-behind-marked w = let u = turn w in marked u u.requires.tree u.requires.holds
-
-pub width-k-requires : goal.width-k-requires
-width-k-requires c = record { tree = c.requires.tree; holds = c.requires.holds }
+-- and its children are among them
+inside : (f : In-Fork) → (f.loop-k.k - 1 < f.in-Fork.first.at) × (f.in-Fork.first.at < f.in-Fork.second.at) × (f.in-Fork.second.at < max_nodes)
+inside f =
+    let b = behind (here (goal.at.In-Fork f).In-loop-k) f.new-node.result f.new-node.ensures f.in-Fork.ensures in
+    (b.0, b.1, omega (arith, b.2, few-nodes f.requires.good))
 
 pub loop-k-init : goal.loop-k-init
-loop-k-init c = (c.requires.room, λ t h. let e = c.width-k.ensures t h in (omega arith, λ k le lt. absurd (omega arith)))
+loop-k-init c = (
+  c.requires.room,
+  λ t h k le lt. absurd (omega (arith, c.width-k.ensures, ap nodes (at-node c.new-root.result c.new-root.ensures h))),
+)
 
-pub bounds-n-k : goal.bounds-n-k
-bounds-n-k c = within (here (goal.at.bounds-n-k c).In-loop-k).holds
+pub new-node-requires : goal.new-node-requires
+new-node-requires c =
+    let s = here (goal.at.new-node-requires c).In-loop-k in
+    record { tree = s.tree; holds = s.holds }
 
 -- ---- a leaf
 pub overflow_sub-m : goal.overflow_sub-m
-overflow_sub-m c = omega (arith, label-range (here (goal.at.overflow_sub-m c).In-loop-k) c.if-b-le-FORK.true)
-
-pub overflow_cast-m : goal.overflow_cast-m
-overflow_cast-m c = omega (arith, label-range (here (goal.at.overflow_cast-m c).In-loop-k) c.if-b-le-FORK.true)
+overflow_sub-m c = omega (arith, label-range (here (goal.at.overflow_sub-m c).In-loop-k) c.new-node.result c.new-node.ensures c.in-Leaf.ensures)
 
 pub overflow_shl-m : goal.overflow_shl-m
-overflow_shl-m c = omega (arith, label-range (here (goal.at.overflow_shl-m c).In-loop-k) c.if-b-le-FORK.true)
+overflow_shl-m c = omega (arith, label-range (here (goal.at.overflow_shl-m c).In-loop-k) c.new-node.result c.new-node.ensures c.in-Leaf.ensures)
 
 pub offset_bounds-m-k : goal.offset_bounds-m-k
 offset_bounds-m-k c = omega (arith, few (goal.at.offset_bounds-m-k c).In-loop-k)
@@ -86,58 +54,40 @@ offset_bounds-m-k c = omega (arith, few (goal.at.offset_bounds-m-k c).In-loop-k)
 pub bounds-m-k : goal.bounds-m-k
 bounds-m-k c = few (goal.at.bounds-m-k c).In-loop-k
 
-pub loop-k-preserved-then-b-le-FORK : goal.loop-k-preserved-then-b-le-FORK
-loop-k-preserved-then-b-le-FORK c =
-    let u = (goal.at.loop-k-preserved-then-b-le-FORK c).In-loop-k in
-    let inv = u.loop-k.invariant in (
-      simp length-set inv.0,
-      λ t h. (omega (arith, (inv.1 t h).0), marks-more clade (xs u) (ms u) (at u) (nodes t) _ (room u) (bit_is (xs u) (at u) c.if-b-le-FORK.true) (marked u t h)),
-    )
+pub loop-k-preserved-in-Leaf : goal.loop-k-preserved-in-Leaf
+loop-k-preserved-in-Leaf c =
+    let u = (goal.at.loop-k-preserved-in-Leaf c).In-loop-k in
+    let label = label-range (here u) c.new-node.result c.new-node.ensures c.in-Leaf.ensures in
+    let own = at-each clade c.new-node.result c.new-node.ensures (bit_is c.in-Leaf.label label.1 c.in-Leaf.ensures) in
+    (simp length-set u.loop-k.invariant.0, λ t h. marks-more clade u.args.n.now u.loop-k.m (u.loop-k.k - 1) (nodes t) _ (omega (arith, few u, u.loop-k.invariant.0)) own (marked u t h))
 
 -- ---- a fork
-pub overflow_add-first : goal.overflow_add-first
-overflow_add-first c = omega (arith, few (goal.at.overflow_add-first c).In-loop-k)
-
-pub width-requires : goal.width-requires
-width-requires c =
-    let f = fork-of (here (goal.at.width-requires c).In-loop-k) c.if-b-le-FORK.false in
-    record { tree = f.first; holds = f.holds-first }
-
-pub overflow_add-second : goal.overflow_add-second
-overflow_add-second c = omega (arith, ends c)
-
 pub offset_bounds-m-first : goal.offset_bounds-m-first
-offset_bounds-m-first c = omega (arith, ends c)
+offset_bounds-m-first c = omega (arith, inside (goal.at.offset_bounds-m-first c).In-Fork)
 
 pub bounds-m-first : goal.bounds-m-first
-bounds-m-first c = omega (arith, ends (goal.at.bounds-m-first c).After-width)
+bounds-m-first c = omega (arith, inside (goal.at.bounds-m-first c).In-Fork)
 
 pub offset_bounds-m-second : goal.offset_bounds-m-second
-offset_bounds-m-second c = omega (arith, ends (goal.at.offset_bounds-m-second c).After-width)
+offset_bounds-m-second c = omega (arith, inside (goal.at.offset_bounds-m-second c).In-Fork)
 
 pub bounds-m-second : goal.bounds-m-second
-bounds-m-second c = omega (arith, ends (goal.at.bounds-m-second c).After-width)
+bounds-m-second c = omega (arith, inside (goal.at.bounds-m-second c).In-Fork)
 
 pub overflow_add-m : goal.overflow_add-m
 overflow_add-m c =
-    let w = (goal.at.overflow_add-m c).After-width in
-    omega (arith, sum_fits (here (turn w)) w.if-b-le-FORK.false w.width.result (width_is w) (ms (turn w)) (behind-marked w))
+    let u = (goal.at.overflow_add-m c).In-loop-k in
+    omega (arith, sum_fits (here u) c.new-node.result c.new-node.ensures c.in-Fork.ensures u.loop-k.m (marked u u.requires.tree u.requires.holds))
 
-pub offset_bounds-m-k-else-b-le-FORK : goal.offset_bounds-m-k-else-b-le-FORK
-offset_bounds-m-k-else-b-le-FORK c = omega (arith, ends (goal.at.offset_bounds-m-k-else-b-le-FORK c).After-width)
+pub offset_bounds-m-k-in-Fork : goal.offset_bounds-m-k-in-Fork
+offset_bounds-m-k-in-Fork c = omega (arith, few (goal.at.offset_bounds-m-k-in-Fork c).In-loop-k)
 
-pub bounds-m-k-else-b-le-FORK : goal.bounds-m-k-else-b-le-FORK
-bounds-m-k-else-b-le-FORK c = few (turn (goal.at.bounds-m-k-else-b-le-FORK c).After-width)
+pub bounds-m-k-in-Fork : goal.bounds-m-k-in-Fork
+bounds-m-k-in-Fork c = few (goal.at.bounds-m-k-in-Fork c).In-loop-k
 
 pub loop-k-preserved : goal.loop-k-preserved
 loop-k-preserved c =
-    let w = (goal.at.loop-k-preserved c).After-width in
-    let u = turn w in
-    let inv = u.loop-k.invariant in
-    let own = sum_is (here u) w.if-b-le-FORK.false w.width.result (width_is w) (ms u) (behind-marked w) in (
-      simp length-set inv.0,
-      λ t h. (omega (arith, (inv.1 t h).0), marks-more clade (xs u) (ms u) (at u) (nodes t) _ (room u) own (marked u t h)),
-    )
-
-pub returns : goal.returns
-returns c = λ t h k le lt. (c.loop-k.invariant.1 t h).1 k (omega arith) lt
+    let u = (goal.at.loop-k-preserved c).In-loop-k in
+    let sum = sum_is (here u) c.new-node.result c.new-node.ensures c.in-Fork.ensures u.loop-k.m (marked u u.requires.tree u.requires.holds) in
+    let own = at-each clade c.new-node.result c.new-node.ensures sum in
+    (simp length-set u.loop-k.invariant.0, λ t h. marks-more clade u.args.n.now u.loop-k.m (u.loop-k.k - 1) (nodes t) _ (omega (arith, few u, u.loop-k.invariant.0)) own (marked u t h))

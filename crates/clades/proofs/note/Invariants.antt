@@ -1,7 +1,5 @@
--- `clades::note` meets its contract. The loop's invariant: the nodes from k on are marked.
--- Assumes nothing.
-use Prim.Native.Nat.{◌≤◌}
-use lib.ListN.{length}
+-- The nodes from k on are marked.
+use Rattle.std.proofs.Common.{◌≤◌, length}
 use Rattle.meaning.specs.Limits.{max_nodes}
 use Rattle.meaning.specs.Tree.{Tree}
 use Rattle.meaning.specs.Clade.{clade}
@@ -10,7 +8,4 @@ use Rattle.clades.specs.Marks.{Marks}
 use Rattle.clades.proofs.note.Given as goal
 
 abbrev pub invariant-loop-k : goal.invariant-loop-k
-invariant-loop-k l = (max_nodes ≤ length l.m) × ((t : Tree) → Holds l.n 0 t → (l.k ≤ nodes t) × Marks clade l.n l.m l.k (nodes t))
-
-abbrev pub decreases-loop-k : goal.decreases-loop-k
-decreases-loop-k l = l.k
+invariant-loop-k l = (max_nodes ≤ length l.m) × ((t : Tree) → Holds l.n 0 t → Marks clade l.n l.m l.k (nodes t))

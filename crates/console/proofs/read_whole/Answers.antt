@@ -9,10 +9,10 @@ use Rattle.console.proofs.read_whole.Goals as goal
 pub loop-done-preserved : goal.loop-done-preserved
 loop-done-preserved g c =
     let done = c.loop-done.done in
-    let more = c.in-Bytes.more in
+    let more = c.in_ok-more.more in
     let old = c.loop-done.buf in
-    let new = c.read_behind-got.new.buf in
-    let came = c.in-Bytes.ensures in
+    let new = c.read_behind.new.buf in
+    let came = c.in_ok-more.ensures in
     let joined : take done old ++ take more (drop done new) ≡ take (done + more) new =
     ap (λ l. l ++ take more (drop done new)) (sym came.within.kept) ∙ sym (take-add done more new) in (
       omega (arith, came.within.within, came.within.same),

@@ -1,8 +1,7 @@
--- `held::note_smallest` meets its contract. The measure of the walk is the leaves below the node.
--- Assumes nothing.
-use Prim.Native.Nat.{◌-◌}
-use lib.ListN.{get_or}
+-- The leaves below the node fall.
+use Rattle.meaning.specs.Tree.{leaves}
+use Rattle.held.specs.Node.{subtree}
 use Rattle.held.proofs.+note_smallest.Given as goal
 
 abbrev pub decreases-note_smallest : goal.decreases-note_smallest
-decreases-note_smallest l = get_or l.n.now l.k 0 - 64
+decreases-note_smallest l = leaves (subtree l.node)

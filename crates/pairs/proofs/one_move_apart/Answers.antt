@@ -1,30 +1,31 @@
--- `pairs::one_move_apart` meets its contract, by Lemma 2.2.
--- Assumes nothing.
-use mathlib.Core.Path.{◌≡◌}
+-- By Lemma 2.2.
+use Rattle.std.proofs.Common.{◌≡◌}
 use Rattle.meaning.specs.Tree.{canon}
-use Rattle.held.specs.Held.{Held}
 use Rattle.lent.proofs.Says.{said, denied}
+use Rattle.held.specs.Node.{subtree}
 use Rattle.held.proofs.Kept.{keeps-holds, kept-held}
+use Rattle.held.proofs.Subtree.{at-node}
 use Rattle.pairs.proofs.Apart.{tested-same, tested}
-use Rattle.pairs.proofs.one_move_apart.Goals.{Start}
 use Rattle.pairs.proofs.one_move_apart.Goals as goal
 
-both-held : (c : Start) → Held c.args.a.node 0 × Held c.args.b.node 0
-both-held c = (kept-held c.requires.0, kept-held c.requires.1)
+pub new-requires : goal.new-requires
+new-requires c = kept-held c.requires.0
 
-pub same_subtree-requires : goal.same_subtree-requires
-same_subtree-requires c = both-held (goal.at.same_subtree-requires c).Start
+pub new-requires-2 : goal.new-requires-2
+new-requires-2 c = kept-held c.requires.1
 
 pub shares_forest-requires : goal.shares_forest-requires
 shares_forest-requires c = c.requires
 
 pub returns-then-same_subtree : goal.returns-then-same_subtree
-returns-then-same_subtree c = λ t u k l.
-    tested-same k.good l.good (said (canon t ≡ canon u) c.if-same_subtree.true (c.same_subtree.ensures (canon t) (canon u) (keeps-holds k) (keeps-holds l)))
+returns-then-same_subtree c t u k l =
+    let same = said (subtree c.new.result ≡ subtree c.new-2.result) c.if-same_subtree.true c.same_subtree.ensures in
+    tested-same k.good l.good (rw (at-node c.new.result c.new.ensures (keeps-holds k), at-node c.new-2.result c.new-2.ensures (keeps-holds l)) at same)
 
 pub returns : goal.returns
-returns c = λ t u k l.
+returns c t u k l =
     let g = keeps-holds k in
     let h = keeps-holds l in
-    let differ = denied (canon t ≡ canon u) c.if-same_subtree.false (c.same_subtree.ensures (canon t) (canon u) g h) in
-    tested k.good l.good differ c.shares_forest.result (c.shares_forest.ensures (canon t) (canon u) g h)
+    let differ = denied (subtree c.new.result ≡ subtree c.new-2.result) c.if-same_subtree.false c.same_subtree.ensures in
+    let differ-canon : ¬ (canon t ≡ canon u) = rw (at-node c.new.result c.new.ensures g, at-node c.new-2.result c.new-2.ensures h) at differ in
+    tested k.good l.good differ-canon c.shares_forest.result (c.shares_forest.ensures (canon t) (canon u) g h)

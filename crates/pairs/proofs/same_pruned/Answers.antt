@@ -1,32 +1,22 @@
--- `pairs::same_pruned` meets its contract: what a cut takes away is the subtree at its node.
--- Assumes nothing.
-use borrow.Author.Rules.{rules}
-use Prim.Native.Nat.{◌+◌, ◌<◌}
-use native.Mathlib.Omega.{arith}
-use lib.ListN.{length}
+-- What a cut takes away is the subtree at its node.
+use Rattle.std.proofs.Common.{arith}
 use Rattle.held.proofs.Laws.{within}
-use Rattle.held.proofs.Cut.{cut_holds}
+use Rattle.held.proofs.Subtree.{at-node}
 use Rattle.pairs.proofs.Search.{pruned-held, pruned-holds}
-use Rattle.pairs.proofs.same_pruned.Goals.{Start}
 use Rattle.pairs.proofs.same_pruned.Goals as goal
 
-nodes-within : (c : Start) → (c.args.c + 1 < length c.args.x.now) × (c.args.d + 1 < length c.args.y.now)
-nodes-within c = (within (cut_holds c.requires.0), within (cut_holds c.requires.1))
-
 pub overflow_add-c : goal.overflow_add-c
-overflow_add-c c = omega (arith, nodes-within (goal.at.overflow_add-c c).Start)
+overflow_add-c c = omega (arith, within (pruned-held c.requires.0).holds)
+
+pub new-requires : goal.new-requires
+new-requires c = pruned-held c.requires.0
 
 pub overflow_add-d : goal.overflow_add-d
-overflow_add-d c = omega (arith, nodes-within (goal.at.overflow_add-d c).Start)
+overflow_add-d c = omega (arith, within (pruned-held c.requires.1).holds)
 
-pub same_subtree-requires : goal.same_subtree-requires
-same_subtree-requires c =
-    let p = c.requires in
-    let at_c = pruned-held p.0 in
-    let at-d = pruned-held p.1 in
-    search rules
+pub new-requires-2 : goal.new-requires-2
+new-requires-2 c = pruned-held c.requires.1
 
 pub returns : goal.returns
-returns c =
-    let p = c.requires in
-    λ t u g h. c.same_subtree.ensures _ _ (pruned-holds p.0 t g) (pruned-holds p.1 u h)
+returns c t u g h =
+    rw (at-node c.new.result c.new.ensures (pruned-holds c.requires.0 t g), at-node c.new-2.result c.new-2.ensures (pruned-holds c.requires.1 u h)) at c.same_subtree.ensures

@@ -1,21 +1,17 @@
--- `held::Tree::canonical` meets its contract.
--- Assumes nothing.
-use Prim.Native.Nat.{◌+◌, ◌≤◌}
-use native.Mathlib.Omega.{arith}
+-- The smallest labels are noted, and then the tree is written.
+use Rattle.std.proofs.Common.{ap, arith}
 use Rattle.held.specs.Held.{nodes}
 use Rattle.held.proofs.Canon.{noted-marks}
+use Rattle.held.proofs.Subtree.{at-node}
 use Rattle.held.proofs.Tree.canonical.Goals as goal
 
 pub note_smallest-requires : goal.note_smallest-requires
-note_smallest-requires c =
-    let p = c.requires in
-    record { tree = p.tree; holds = p.holds; room = omega arith }
+note_smallest-requires c = omega (arith, c.new-root.ensures, ap nodes (at-node c.new-root.result c.new-root.ensures c.requires.holds))
 
 pub order-requires : goal.order-requires
 order-requires c =
-    let p = c.requires in
-    let room : 0 + nodes p.tree ≤ 127 = omega arith in
-    record { tree = p.tree; holds = p.holds; marks = noted-marks (c.note_smallest.ensures p.tree p.holds) room; room = room }
+    let few = ap nodes (at-node c.new-root.result c.new-root.ensures c.requires.holds) in
+    (noted-marks c.note_smallest.ensures (omega (arith, c.new-root.ensures, few)), omega (arith, few))
 
 pub returns : goal.returns
-returns c = λ t h. (c.order.ensures t h).cells
+returns c t h = rw (← at-node c.new-root.result c.new-root.ensures h) c.order.ensures.cells

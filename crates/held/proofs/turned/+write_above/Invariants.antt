@@ -1,6 +1,5 @@
--- `held::turned::write_above` meets its contract. The measure of the walk is the depth of the node.
--- Assumes nothing.
+-- The depth of the node falls.
 use Rattle.held.proofs.turned.+write_above.Given as goal
 
 abbrev pub decreases-write_above : goal.decreases-write_above
-decreases-write_above l = l.k
+decreases-write_above l = l.node.at

@@ -1,47 +1,22 @@
--- `held::turned::hung` meets its contract: the leftmost path is turned round, and the tree ordered anew.
--- Assumes nothing.
-use Rattle.meaning.specs.Tree.{Tree as Topology, canon}
-use Rattle.held.specs.Kept.{Keeps}
-use Rattle.held.specs.Turning.{Leftmost}
-use Rattle.held.proofs.Kept.{keeps-holds, kept-held}
-use Rattle.held.proofs.Hanging.{hung-leaf, least-some, least-inside, above-room, turned-room, hung-fork}
-use Rattle.held.proofs.turned.hung.Goals.{After-leftmost-least, Start}
+-- The leftmost path is turned round, and the tree ordered anew.
+use Rattle.held.proofs.Kept.{kept-held}
+use Rattle.held.proofs.Hanging.{hung-leaf, least-inside, above-room, turned-room, hung-fork}
 use Rattle.held.proofs.turned.hung.Goals as goal
 
--- the leftmost leaf is found
-abbrev Found : Type 0
-Found = After-leftmost-least
+pub new-root-requires : goal.new-root-requires
+new-root-requires c = kept-held c.requires
 
-found : (f : Found) {t : Topology} → Keeps f.args.tree t → Leftmost f.args.tree.node (canon t) f.leftmost-least.result
-found f {t} k = f.leftmost-least.ensures (canon t) (keeps-holds k)
+pub returns-in_default : goal.returns-in_default
+returns-in_default c t k = hung-leaf k c.new-root.result c.new-root.ensures c.in_default.ensures
 
-pub returns-then-n-le-FORK : goal.returns-then-n-le-FORK
-returns-then-n-le-FORK c t k = hung-leaf k c.if-n-le-FORK.true
-
-pub leftmost-least-requires : goal.leftmost-least-requires
-leftmost-least-requires c = (kept-held c.requires, c.if-n-le-FORK.false)
-
-pub bounds-n-least : goal.bounds-n-least
-bounds-n-least c =
-    let p = c.requires in
-    least-inside p.keeps (found c p.keeps)
-
-pub overflow_sub-least : goal.overflow_sub-least
-overflow_sub-least c =
-    let f = (goal.at.overflow_sub-least c).After-leftmost-least in
-    least-some f.requires.keeps (found f f.requires.keeps)
+pub bounds-tree-least : goal.bounds-tree-least
+bounds-tree-least c = least-inside c.requires.keeps c.new-root.result c.new-root.ensures c.in-Fork.ensures c.leftmost-least.ensures
 
 pub write_above-requires : goal.write_above-requires
-write_above-requires c =
-    let f = (goal.at.write_above-requires c).After-leftmost-least in
-    above-room f.requires.keeps (found f f.requires.keeps)
+write_above-requires c = above-room c.requires.keeps c.new-root.result c.new-root.ensures c.in-Fork.ensures c.leftmost-least.ensures
 
-pub canonical-ordered-requires : goal.canonical-ordered-requires
-canonical-ordered-requires c =
-    let f = (goal.at.canonical-ordered-requires c).After-leftmost-least in
-    turned-room f.requires.keeps (found f f.requires.keeps) c.write_above.ensures
+pub canonical-requires : goal.canonical-requires
+canonical-requires c = turned-room c.requires.keeps c.new-root.result c.new-root.ensures c.in-Fork.ensures c.leftmost-least.ensures c.byte.ensures c.write_above.ensures
 
 pub returns : goal.returns
-returns c t k =
-    let f = (goal.at.returns c).After-leftmost-least in
-    hung-fork k (found f k) c.write_above.ensures c.canonical-ordered.ensures
+returns c t k = hung-fork k c.new-root.result c.new-root.ensures c.in-Fork.ensures c.leftmost-least.ensures c.byte.ensures c.write_above.ensures c.canonical.ensures

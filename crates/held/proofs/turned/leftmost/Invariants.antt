@@ -1,15 +1,13 @@
--- `held::turned::leftmost` meets its contract: down the leftmost path the leaves fall.
--- Assumes nothing.
-use Prim.Native.Nat.{◌-◌}
-use lib.ListN.{get_or}
-use Rattle.meaning.specs.Tree.{Tree}
-use Rattle.held.specs.Held.{Holds}
+-- The node is on the leftmost path, and the leaves below it fall.
+use Rattle.std.proofs.Common.{◌≡◌}
+use Rattle.meaning.specs.Tree.{Tree, leaves}
+use Rattle.held.specs.Node.{subtree}
 use Rattle.held.specs.Turning.{Turning}
 use Rattle.held.proofs.turned.leftmost.Given as goal
 
--- k is on the leftmost path
-abbrev pub invariant-loop-k : goal.invariant-loop-k
-invariant-loop-k l = (t : Tree) → Holds l.n 0 t → (s : Tree) × (up : Tree) × Turning t l.k s up
+abbrev pub invariant-loop-first : goal.invariant-loop-first
+invariant-loop-first l =
+    (l.node.tree.now ≡ l.top.tree.now) × ((t up : Tree) → Turning t l.top.at (subtree l.top) up → (above : Tree) × Turning t l.node.at (subtree l.node) above)
 
-abbrev pub decreases-loop-k : goal.decreases-loop-k
-decreases-loop-k l = get_or l.n l.k 0 - 64
+abbrev pub decreases-loop-first : goal.decreases-loop-first
+decreases-loop-first l = leaves (subtree l.node)

@@ -1,7 +1,0 @@
--- The loop counts up to the slice's end.
--- Assumes nothing.
-use Rattle.std.proofs.Common.{length, ◌-◌}
-use Rattle.more_samples.proofs.plot_samples.print_rows.Given as goal
-
-abbrev pub decreases-loop-i : goal.decreases-loop-i
-decreases-loop-i g l = length l.rows - l.i

@@ -1,0 +1,13 @@
+-- The line of a refusal, or the sheet.
+use Rattle.sheet.proofs.Sizes.{sheet-fits}
+use Rattle.sheet.proofs.Prints.{refusal-room, refusal-printed, table-printed}
+use Rattle.sheet.proofs.print_sheet.Goals as goal
+
+pub print_refusal-requires : goal.print_refusal-requires
+print_refusal-requires c = refusal-room c.args.s.now c.args.out.now c.requires (λ x h. sheet-fits h) c.in-Err.x c.in-Err.ensures
+
+pub returns-in-Ok : goal.returns-in-Ok
+returns-in-Ok c = table-printed c.args.s.now c.args.out.now c.requires (λ x h. sheet-fits h) c.in-Ok.ensures c.write_table_sheet.ensures
+
+pub returns-in-Err : goal.returns-in-Err
+returns-in-Err c = refusal-printed c.args.s.now c.args.out.now c.requires (λ x h. sheet-fits h) c.in-Err.x c.in-Err.ensures c.print_refusal.ensures
