@@ -152,7 +152,7 @@ extern "C" {
 #define NORBELATH_PLOT_STACK (16 * 1024)
 #define NORBELATH_INDEX_ADD_STACK (18 * 1024)
 #define NORBELATH_INDEX_NEIGHBOURS_STACK (18 * 1024)
-#define NORBELATH_INDEX_REMOVE_STACK (15 * 1024)
+#define NORBELATH_INDEX_REMOVE_STACK (12 * 1024)
 #define NORBELATH_SHEET_STACK (440 * 1024)
 
 /* The choices of the graph choosing call. Any number but 0 keeps copies apart. */

@@ -86,7 +86,7 @@ impl Tree {
         let root = Node::new(n, 0);
         note_smallest(&mut low, root);
         let mut out = [0u8; Tree::MAX_NODES];
-        order(&mut out, 0, root, &low);
+        order(&mut out, 0, &root, &low);
         Self {
             node: out,
             kind: Kind::Rooted,
@@ -101,7 +101,7 @@ impl Tree {
         let root = Node::new(&self.node, 0);
         let cut = Node::new(&self.node, c + 1);
         let mut left = [0u8; Tree::MAX_NODES];
-        cut_node(&mut left, 0, root, cut);
+        cut_node(&mut left, 0, root, &cut);
         Tree::canonical(&left)
     }
 }
@@ -177,20 +177,20 @@ fn note_smallest(low: &mut [u8], node: Node) -> u8
 
 // Writes the subtree in canonical order into `out` from `at` on, the smallest labels being noted in `low`; returns the place
 // behind it.
-fn order(out: &mut [u8], at: usize, node: Node, low: &[u8]) -> usize
-    requires { Marks low.now node.at (subtree node) × (at + nodes (subtree node) ≤ length out.old) }
-    ensures { Wrote (pre (canon (subtree node.entry))) out.old out.new at result }
+fn order(out: &mut [u8], at: usize, node: &Node, low: &[u8]) -> usize
+    requires { Marks low.now node.now.at (subtree node.now) × (at + nodes (subtree node.now) ≤ length out.old) }
+    ensures { Wrote (pre (canon (subtree node.now))) out.old out.new at result }
 {
     out[at] = node.byte();
     match node.shape() {
         Shape::Leaf(_) => at + 1,
         Shape::Fork(first, second) => {
             if low[second.at] < low[first.at] {
-                let next = order(out, at + 1, second, low);
-                order(out, next, first, low)
+                let next = order(out, at + 1, &second, low);
+                order(out, next, &first, low)
             } else {
-                let next = order(out, at + 1, first, low);
-                order(out, next, second, low)
+                let next = order(out, at + 1, &first, low);
+                order(out, next, &second, low)
             }
         }
     }
@@ -206,9 +206,9 @@ pub fn copy_node(out: &mut [u8], at: usize, node: Node) -> usize
 
 // Writes what is left of the fork without the subtree at the node `cut` below it into `out` from `at` on; returns the place
 // behind it. The fork that `cut` hung from is closed up.
-fn cut_node(out: &mut [u8], at: usize, node: Node, cut: Node) -> usize
-    requires { Below node cut × (at + nodes (subtree node) ≤ length out.old) }
-    ensures { Wrote (pre (cut_below node.entry cut.entry).rest) out.old out.new at result }
+fn cut_node(out: &mut [u8], at: usize, node: Node, cut: &Node) -> usize
+    requires { Below node cut.now × (at + nodes (subtree node) ≤ length out.old) }
+    ensures { Wrote (pre (cut_below node.entry cut.now).rest) out.old out.new at result }
 {
     let Shape::Fork(first, second) = node.shape() else {
         unreachable!()

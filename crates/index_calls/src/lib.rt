@@ -92,6 +92,7 @@ fn has_tree(memory: &[u8], number: usize) -> bool
 }
 
 // Why nothing can be done with the number's tree, where nothing can. `fits` says whether enough is lent.
+// `fits` is a bool, as the definition `Barred` takes it: the slices are measured before memory is looked at.
 fn barred(memory: &[u8], number: usize, fits: bool) -> Option<Reason>
     requires { fits ≡ true → index_bytes ≤ length memory.now }
     ensures { Barred memory.now number fits (line_of result) }

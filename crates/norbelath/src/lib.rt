@@ -1,7 +1,7 @@
 #![tactic(auto)]
 // The calls for programs in C and Rust. None asks anything of its caller. Each answers by a result and lent numbers, two or, of
 // the support call, three: `coded` and `support_value` of the crate `replies` say which answer they are, and include/norbelath.h
-// says it to a caller.
+// says it to a caller. Slices and numbers to write to stand one by one in the parameters: the C interface.
 pub mod clade_exports;
 pub mod index_exports;
 pub mod plot_exports;

@@ -55,6 +55,7 @@ pub fn hand_back(reply: Reply, first: &mut u64, second: &mut u64) -> u8
 }
 
 /// What becomes of copies: 0 merges them, and any other number keeps them apart.
+// A number: the C function `norbelath_graph_choosing` is handed one.
 pub fn copies_of(choice: u8) -> Copies
     ensures { choice_of result ≡ choice_coded choice }
 {

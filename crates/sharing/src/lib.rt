@@ -86,6 +86,7 @@ pub fn link_sharing(
     let mut twins = [0u16; Entries::SIZE];
     // Entries are told by their numbers, which `find_twin` and `link_back` take and `twins` holds; 0 is none, as in `chains`.
     for e in 1..end {
+        // Key 0 for none, in fixed memory: each key that is noted is above 0.
         if keys[e] != 0 {
             twins[e] = find_twin(table, same, e).unwrap_or(0) as u16;
             link_back(links, &twins, e);

@@ -10,6 +10,7 @@ use held::{Table, Tree};
 use reading::{Takes, TreeRead};
 use tokens::{Reason, Refusal};
 
+// `fits` is a flag, as in document 01's `lent` and `withheld`.
 // Why a call reads nothing of s, where it reads nothing: its slices are too short, or s is too long.
 // `fits` is a bool, as the definition `lent` takes it: the slices are measured before any text is looked at.
 fn withheld(s: &[u8], fits: bool) -> Option<Reason>

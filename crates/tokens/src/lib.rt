@@ -164,7 +164,7 @@ impl Run {
 pub type Marks = [bool; Run::TOO_LARGE];
 
 /// The byte at a place; 0 behind the end.
-// 0 and no Option: the definitions read 0 behind the end (`get_or`), and no rule has a byte 0.
+// `s.get(at).copied().unwrap_or(0)` is no plainer.
 pub fn byte_at(s: &[u8], at: usize) -> u8
     ensures { result ≡ get_or s.now at 0 }
 {
@@ -196,6 +196,7 @@ pub fn skip_blanks(s: &[u8], from: usize) -> usize
 
 // The run of digits at a place. A value above 64 is held down, so that no run is too long.
 // The loop has to tell the end and the value: over the digits alone it would count the end beside them.
+// The value is held down and no Option: a value of 0 is refused by the same line of the list as one above 64.
 fn digit_run(s: &[u8], from: usize) -> Run
     ensures end { result.end ≡ run_end s.now from }
     ensures value { result.value ≡ min too_large (value s.now from) }

@@ -31,7 +31,7 @@ copy_node-requires-then-cut-second-2 t c =
     let b = c.requires.0 in
     let room = rest-first-room k.is k.first_at k.second_at b.behind b.inside c.if-cut-first.false c.if-cut-second-2.true in
     let long = simp length-set at (wrote-length c.cut_node-next.ensures) in
-    omega (arith, children-nodes k, long, room, c.cut_node-next.ensures.behind, length-pre (cut_below c.in-Fork.first c.args.cut).rest)
+    omega (arith, children-nodes k, long, room, c.cut_node-next.ensures.behind, length-pre (cut_below c.in-Fork.first c.args.cut.now).rest)
 
 pub cut_node-requires : goal.cut_node-requires
 cut_node-requires t c =
