@@ -5,7 +5,7 @@ use mathlib.Core.List.{List}
 use Prim.Native.Nat.{ℕ, ◌*◌, ◌-◌, ◌≤◌, ◌<◌}
 use native.Mathlib.Omega.{arith}
 use native.Mathlib.Decide.{dec_lt}
-use lib.ListN.{length, take, get_or-eq_default}
+use lib.ListN.{length, take, replicate, length-replicate, get_or-eq_default}
 use Rattle.meaning.specs.Limits.{max_trees, forest_bytes}
 use Rattle.meaning.specs.Tree.{Tree, leaves}
 use Rattle.meaning.specs.Move.{cut_at, forest}
@@ -22,6 +22,7 @@ use Rattle.writing.specs.Writing.{ForestFits}
 use Rattle.slots.specs.Records.{tree_in}
 use Rattle.slots.proofs.Shelving.{slot-keeps, one-shelved}
 use Rattle.entries.specs.Places.{HasEntry}
+use Rattle.entries.specs.Texts.{padded}
 
 -- what has cuts has a tree
 cut-tree : (h : Slot) {c : ℕ} → c < cuts_of h → (t : Tree) × (h ≡ held t)
@@ -72,3 +73,10 @@ module _ {memory : List ℕ} {x c : ℕ} (E : HasEntry memory (x, c)) where
         omega (arith, short),
         λ hs S. own ∙ ap (λ (h : Slot). forest_of h c) (sym has) ∙ ap (λ (l : List Slot). entry_text l (x, c)) (one-shelved E.shelved S),
       )
+
+  -- with zeros behind it, where there were zeros
+  pub entry-padded : {bytes : List ℕ} {len : ℕ} → ((t : Tree) → Keeps (tree_in memory x) t → Wrote (forest (cut_at t c)) (replicate forest_bytes 0) bytes 0 len)
+      → bytes ≡ padded (take len bytes)
+  entry-padded {bytes} {len} wrote =
+      let w = wrote tree keeps in
+      w.cells ∙ ap padded (sym (written-first w (omega (arith, short, w.behind, length-replicate {A = ℕ} forest_bytes 0))))

@@ -21,10 +21,12 @@ pub enum Shape<'a> {
     Fork(Node<'a>, Node<'a>),
 }
 
+// Inlined, as each is a few steps: a node that is passed to a call goes through memory.
 impl<'a> Node<'a> {
     ghost use Rattle.held.specs.Node.{subtree, Shows};
 
     /// The node at `at` of the bytes `tree`.
+    #[inline(always)]
     pub fn new(tree: &'a [u8], at: usize) -> Self
         requires { Held tree.now at }
         ensures { (result.tree.now ≡ tree.now) × (result.at ≡ at) }
@@ -33,6 +35,7 @@ impl<'a> Node<'a> {
     }
 
     /// A leaf's byte is its label, a fork's is 64 and the leaves below it.
+    #[inline(always)]
     pub fn byte(self) -> u8
         ensures { result ≡ byte_of (subtree self.entry) }
     {
@@ -40,6 +43,7 @@ impl<'a> Node<'a> {
     }
 
     /// How many leaves the subtree has.
+    #[inline(always)]
     pub fn leaves(self) -> u8
         ensures { result ≡ leaves_of (subtree self.entry) }
     {
@@ -48,6 +52,7 @@ impl<'a> Node<'a> {
     }
 
     /// How many nodes the subtree has.
+    #[inline(always)]
     pub fn width(self) -> usize
         ensures { result ≡ nodes (subtree self.entry) }
     {
@@ -55,6 +60,7 @@ impl<'a> Node<'a> {
     }
 
     /// What the node is: the first child is the next node, and the second stands behind its subtree.
+    #[inline(always)]
     pub fn shape(self) -> Shape<'a>
         ensures { Shows self.entry result }
     {

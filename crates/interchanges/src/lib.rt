@@ -12,6 +12,8 @@ use pairs::{other_child, same_subtree};
 
 // Whether a child of `parent` is regrafted beside its aunt: it is the child of `regrown` beside the aunt, and its sibling of
 // before stands alone.
+// Inlined, since its nodes go through memory else: a table has 12,720 pairs.
+#[inline(always)]
 fn regrafted(parent: Node, aunt: Node, regrown: Node, alone: Node) -> bool
     ensures { Says result (Regrafted (subtree parent.entry) (subtree aunt.entry) (subtree regrown.entry) (subtree alone.entry)) }
 {

@@ -44,7 +44,7 @@ fn number_islands(numbers: &mut [u16], firsts: &[u16], pairs: &[u16])
     requires { IslandsRoom numbers.old firsts.now pairs.now }
     ensures { (ps : List Pair) → pairs.now ≡ flat ps → numbers.new ≡ unite_all firsts.now ps }
 {
-    numbers.copy_from_slice(firsts);
+    lent::copy(numbers, 0, firsts, 0, firsts.len());
     for &[i, j] in pairs.as_chunks::<2>().0 {
         unite(numbers, i as usize, j as usize);
     }

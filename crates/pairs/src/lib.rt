@@ -16,6 +16,8 @@ ghost use Rattle.pairs.specs.Pair.{OrderedCut, Marked, SameForest, Searched, Tes
 use held::{Node, Shape, Tree};
 
 /// Whether the subtrees at two nodes are the same. Most that differ do so at their first byte, which also tells the width.
+// Inlined, as the methods of `Node` are, and `other_child` too.
+#[inline(always)]
 pub fn same_subtree(x: Node, y: Node) -> bool
     ensures { Says result (subtree x.entry ≡ subtree y.entry) }
 {
@@ -34,6 +36,7 @@ pub fn second_child<'a>(node: Node<'a>) -> Node<'a>
 }
 
 /// The child of x beside which y's subtree stands; none where that is no child of it.
+#[inline(always)]
 pub fn other_child<'a>(x: Node<'a>, y: Node) -> Option<Node<'a>>
     ensures { OtherChild x.entry y.entry result }
 {

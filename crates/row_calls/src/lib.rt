@@ -53,9 +53,11 @@ fn compare_rows(row: &[u64], other: &[u64]) -> Result<Comparison, Refusal>
 pub fn row_pair_call(row: &[u64], other: &[u64]) -> Result<Comparison, Refusal>
     ensures { RowPairCall row.now other.now (pair_answer result) }
 {
-    match (rows::is_row(row), rows::is_row(other)) {
-        (false, _) => Err(Reason::NoRow.at(0)),
-        (true, false) => Err(Reason::NoRow.at(0).of_second()),
-        (true, true) => compare_rows(row, other),
+    if !rows::is_row(row) {
+        Err(Reason::NoRow.at(0))
+    } else if !rows::is_row(other) {
+        Err(Reason::NoRow.at(0).of_second())
+    } else {
+        compare_rows(row, other)
     }
 }

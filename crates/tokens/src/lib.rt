@@ -214,7 +214,8 @@ fn digit_run(s: &[u8], from: usize) -> Run
 fn bad_label(v: usize) -> bool
     ensures { (w : ℕ) → v ≡ min too_large w → result ≡ bad_label w }
 {
-    v < 1 || usize::from(Tree::MAX_LABEL) < v
+    let low = v < 1;
+    low || usize::from(Tree::MAX_LABEL) < v
 }
 
 /// The label whose first digit is at q, as the node `at`, and its mark. Refused with 2 where its value is not 1 to 64, and with 3

@@ -29,7 +29,8 @@ pub fn expect_exactly(s: &[u8], p: usize, b: u8) -> Result<usize, Refusal>
 fn read_letter(s: &[u8], p: usize) -> Result<Mark, Refusal>
     ensures { MarkMeets (letter_at s.now p) result }
 {
-    if super::byte_at(s, p) == b'U' {
+    let unrooted = super::byte_at(s, p) == b'U';
+    if unrooted {
         return Ok(Mark {
             kind: Kind::Unrooted,
             behind: p + 1,

@@ -64,7 +64,10 @@ pub fn same_turned(x: Node, p: usize, y: Node, q: usize) -> bool
             return is_turned(b, x, k);
         }
         if !same_subtree(a, b) {
-            return is_turned(a, y, l - 1) && is_turned(b, x, k - 1);
+            if !is_turned(a, y, l - 1) {
+                return false;
+            }
+            return is_turned(b, x, k - 1);
         }
         k -= 1;
         l -= 1;

@@ -1,18 +1,27 @@
--- What is written is a run as long as its part.
-use Rattle.std.proofs.Common.{◌≡◌, ◌∙◌, ◌+◌, ◌-◌, ap, arith, length, take, drop, length-drop}
-use Rattle.std.proofs.Math.Seq.{length-take-le}
-use Rattle.lent.proofs.Runs.{part-written}
+-- One more is copied in each turn.
+use Rattle.std.proofs.Common.{◌≡◌, ◌+◌, ℕ, refl, sym, subst, arith, take, drop, slice_set}
+use Rattle.lent.specs.Runs.{Wrote}
+use Rattle.lent.proofs.Runs.{wrote-length, copy_step}
 use Rattle.lent.proofs.copy.Goals as goal
+
+pub loop-k-init : goal.loop-k-init
+loop-k-init g c = (omega arith, record { behind = omega arith; cells = refl })
+
+pub bounds-out-at : goal.bounds-out-at
+bounds-out-at g c = omega (arith, wrote-length c.loop-k.invariant.1)
+
+pub loop-k-preserved : goal.loop-k-preserved
+loop-k-preserved g c =
+    let a = c.args in
+    let l = c.loop-k in
+    let v = c.index-s-from in
+    let step = copy_step v.result a.s.now a.from l.k (omega arith) l.invariant.1 in (
+      omega arith,
+      subst (λ (x : g.row.T.Denot). Wrote (take (l.k + 1) (drop a.from a.s.now)) a.out.now (slice_set l.out (a.at + l.k) x) a.at (a.at + (l.k + 1))) (sym v.is) step,
+    )
 
 pub returns : goal.returns
 returns g c =
     let a = c.args in
-    let ys = take a.count (drop a.from a.s.now) in
-    let long : length ys ≡ a.count = length-take-le a.count (drop a.from a.s.now) (omega (arith, length-drop a.from a.s.now)) in
-    let k : a.at + a.count - a.at ≡ a.count = omega arith in
-    let m : a.from + a.count - a.from ≡ a.count = omega arith in
-    let part = c.copy_from_slice.ensures.after ∙ ap (λ n. take n (drop a.from a.s.now)) m in
-    record {
-      behind = omega arith;
-      cells = rw (k, part) (part-written a.out.now a.at a.count ys (omega arith) long);
-    }
+    let all : c.loop-k.k ≡ a.count = omega arith in
+    subst (λ (i : ℕ). Wrote (take i (drop a.from a.s.now)) a.out.now c.loop-k.out a.at (a.at + i)) all c.loop-k.invariant.1

@@ -2,9 +2,18 @@ use Rattle.std.proofs.Common.{◌≡◌, ap, ap₂, sym, ◌∙◌, List, ℕ, l
 use Rattle.std.proofs.Math.Seq.{take-length}
 use Rattle.meaning.specs.Islands.{unite, unite_all}
 use Rattle.meaning.proofs.Lists.{numbered}
+use Rattle.lent.proofs.Runs.{wrote-length, written-first}
 use Rattle.graph.proofs.Listed.{chunks-many, chunk-at}
 use Rattle.numbering.proofs.Uniting.{unite-next}
 use Rattle.numbering.proofs.number_islands.Goals as goal
+
+pub loop-i-init : goal.loop-i-init
+loop-i-init c ps e =
+    let fs = c.args.firsts.now in
+    let w = c.copy.ensures in
+    let long : c.copy.result ≡ length c.copy.new.out = omega (arith, w.behind, wrote-length w, c.requires.same, ap length (take-length fs)) in
+    sym (take-length c.copy.new.out) ∙ ap (λ (n : ℕ). take n c.copy.new.out) (sym long)
+    ∙ written-first w (omega (arith, wrote-length w, long)) ∙ take-length fs
 
 pub unite-requires : goal.unite-requires
 unite-requires c =

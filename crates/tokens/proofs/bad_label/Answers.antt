@@ -15,10 +15,10 @@ held_down most v w e h = by (dec_le w max_label)
     by (yes l) = rw (le-ltb most v (omega arith), le-ltb max_label w l)
     by (no l) = rw (lt-ltb most v (omega arith), lt-ltb max_label w (omega arith))
 
-pub returns-then-v-lt1 : goal.returns-then-v-lt1
+pub returns-then-low : goal.returns-then-low
 unfolding bad_label
-returns-then-v-lt1 c w e = rw (lt-ltb c.args.v 1 c.if-v-lt1.true, lt-ltb w 1 (omega (arith, c.if-v-lt1.true)))
+returns-then-low c w e = rw (lt-ltb c.args.v 1 c.if-low.true, lt-ltb w 1 (omega (arith, c.if-low.true)))
 
-pub returns-else-v-lt1 : goal.returns-else-v-lt1
+pub returns-else-low : goal.returns-else-low
 unfolding bad_label
-returns-else-v-lt1 c w e = rw (le-ltb w 1 (omega (arith, c.if-v-lt1.false))) (held_down _ _ w c.from.ensures e)
+returns-else-low c w e = rw (le-ltb w 1 (omega (arith, c.if-low.false))) (held_down _ _ w c.from.ensures e)

@@ -1,5 +1,5 @@
 -- Where the same hangs off both paths they are followed; where it differs, each has to be what hangs from the fork above the other.
-use Rattle.std.proofs.Common.{◌≡◌}
+use Rattle.std.proofs.Common.{◌≡◌, refl}
 use Rattle.lent.proofs.Says.{said, denied, deny}
 use Rattle.held.specs.Node.{subtree}
 use Rattle.pairs.specs.Left.{Alike}
@@ -36,24 +36,24 @@ is_turned-requires-then-not-same_subtree c =
     let b = c.loop-k.invariant c.requires.0 c.requires.1 in
     (off-ordered b.one c.off_path-a.ensures, above_at b.two c.if-l-y.false)
 
-pub is_turned-requires-then-is_turned : goal.is_turned-requires-then-is_turned
-is_turned-requires-then-is_turned c =
+pub returns-then-not-is_turned : goal.returns-then-not-is_turned
+returns-then-not-is_turned c t u =
+    let differ = denied (Same (goal.at.returns-then-not-is_turned c).After-same_subtree) c.if-not-same_subtree.true c.same_subtree.ensures in
+    let one = c.is_turned-then-not-same_subtree in
+    deny (Alike t.tree u.tree) refl
+    (crossed-no (c.loop-k.invariant t u) c.off_path-b.ensures c.loop-k-test.true c.if-l-y.false c.off_path-a.ensures differ one.result one.ensures c.if-not-is_turned.true)
+
+pub is_turned-requires-then-not-same_subtree-2 : goal.is_turned-requires-then-not-same_subtree-2
+is_turned-requires-then-not-same_subtree-2 c =
     let b = c.loop-k.invariant c.requires.0 c.requires.1 in
     (off-ordered b.two c.off_path-b.ensures, above_at b.one c.loop-k-test.true)
 
-pub returns-else-is_turned : goal.returns-else-is_turned
-returns-else-is_turned c t u =
-    let differ = denied (Same (goal.at.returns-else-is_turned c).After-same_subtree) c.if-not-same_subtree.true c.same_subtree.ensures in
+pub returns-then-not-same_subtree : goal.returns-then-not-same_subtree
+returns-then-not-same_subtree c t u =
+    let differ = denied (Same (goal.at.returns-then-not-same_subtree c).After-same_subtree) c.if-not-same_subtree.true c.same_subtree.ensures in
     let one = c.is_turned-then-not-same_subtree in
-    deny (Alike t.tree u.tree) c.if-is_turned.false
-    (crossed-no (c.loop-k.invariant t u) c.off_path-b.ensures c.loop-k-test.true c.if-l-y.false c.off_path-a.ensures differ one.result one.ensures c.if-is_turned.false)
-
-pub returns-then-is_turned : goal.returns-then-is_turned
-returns-then-is_turned c t u =
-    let differ = denied (Same (goal.at.returns-then-is_turned c).After-same_subtree) c.if-not-same_subtree.true c.same_subtree.ensures in
-    let one = c.is_turned-then-not-same_subtree in
-    let two = c.is_turned-then-is_turned in
-    crossed-says (c.loop-k.invariant t u) c.off_path-b.ensures c.loop-k-test.true c.if-l-y.false c.off_path-a.ensures differ one.result one.ensures c.if-is_turned.true two.result two.ensures
+    let two = c.is_turned-then-not-same_subtree-2 in
+    crossed-says (c.loop-k.invariant t u) c.off_path-b.ensures c.loop-k-test.true c.if-l-y.false c.off_path-a.ensures differ one.result one.ensures c.if-not-is_turned.false two.result two.ensures
 
 -- it is the same
 pub loop-k-preserved : goal.loop-k-preserved
